@@ -1,0 +1,54 @@
+use tp_base::{Bytes, Duplicate, NoMemory, Sequence};
+
+/// An operation on one key.
+#[derive(Debug, Drop)]
+pub enum Op {
+    Get { key: Bytes },
+    Put { key: Bytes, value: Bytes },
+    Del { key: Bytes },
+    Cas { key: Bytes, old: Bytes, new: Bytes },
+}
+
+/// A command's operations, or those of one partition.
+pub type Ops = Sequence<Op>;
+
+/// What an operation answers: the value before or none, or whether it had an effect.
+#[derive(Debug, Drop)]
+pub enum Answer {
+    Missing,
+    Value(Bytes),
+    Yes,
+    No,
+}
+
+/// The answers to a list of operations, in their order.
+pub type Answers = Sequence<Answer>;
+
+impl Duplicate for Op {
+    fn copy(&self) -> Result<Self, NoMemory> {
+        match self {
+            Op::Get { key } => Ok(Op::Get { key: key.copy()? }),
+            Op::Put { key, value } => Ok(Op::Put {
+                key: key.copy()?,
+                value: value.copy()?,
+            }),
+            Op::Del { key } => Ok(Op::Del { key: key.copy()? }),
+            Op::Cas { key, old, new } => Ok(Op::Cas {
+                key: key.copy()?,
+                old: old.copy()?,
+                new: new.copy()?,
+            }),
+        }
+    }
+}
+
+impl Duplicate for Answer {
+    fn copy(&self) -> Result<Self, NoMemory> {
+        match self {
+            Answer::Missing => Ok(Answer::Missing),
+            Answer::Value(value) => Ok(Answer::Value(value.copy()?)),
+            Answer::Yes => Ok(Answer::Yes),
+            Answer::No => Ok(Answer::No),
+        }
+    }
+}

@@ -1,0 +1,15 @@
+pub mod Acts
+pub mod Tables
+pub mod Addresses
+pub mod Sheet
+pub mod Process
+pub mod Executor
+pub mod Session
+pub mod Rules
+pub mod Journal
+pub mod Plan
+pub mod Runs
+pub mod Pending
+pub mod Outcome
+pub mod Laws
+pub mod Left

@@ -1,0 +1,211 @@
+-- The rules of a process: what each message and each step of its own changes and sends.
+use Rattle.std.specs.Prelude.{ℕ, ◌+◌, ◌^◌, ◌≤◌, ◌≡◌, ◌==◌, ◌&&◌, nat_lt, nat_le, max, not, Bool, true, false, cond, List, [], ◌∷◌, ◌++◌, Option, Some, None, is_none, is_some, map, filter, reverse}
+use Rattle.std.specs.List.{flat_map}
+use Rattle.tp_base.specs.Names.{same_id, same_name}
+use Rattle.tp_base.specs.declared.names.ActorName.{ActorName}
+use Rattle.tp_base.specs.declared.names.ActorName.TheVariants.{Process, Executor, Session}
+use Rattle.tp_base.specs.declared.names.CommandId.{CommandId}
+use Rattle.tp_base.specs.declared.names.Made.TheVariants.{Proposal, Recovery}
+use Rattle.tp_base.specs.declared.names.Pair.{Pair}
+use Rattle.tp_base.specs.declared.names.Site.{Site}
+use Rattle.tp_base.specs.declared.names.Stamp.{Stamp}
+use Rattle.tp_ops.specs.declared.command.Command.{Command}
+use Rattle.tp_ops.specs.Parts.{is_accessed}
+use Rattle.tp_quorum.specs.Choice.{present, fast_choice}
+use Rattle.tp_quorum.specs.declared.choice.FastChoice.{FastChoice}
+use Rattle.tp_quorum.specs.declared.choice.FastChoice.TheVariants.{Fast, Slow}
+use Rattle.tp_rules.specs.Acts.{Act, Took, Did}
+use Rattle.tp_rules.specs.Addresses.{site, message, to_each, others_accessed, accessed, processes_of, executors_of, rank_of, is_name_of, is_body_at}
+use Rattle.tp_rules.specs.Sheet.{Sheet, Setting, blank, stamp_of, is_fresh, command_or, kept, with_proposal, can_acknowledge, acknowledged, acknowledged_own, is_full, putting, with_stamp, final_stamp}
+use Rattle.tp_rules.specs.declared.event.Inner.{Inner}
+use Rattle.tp_rules.specs.declared.event.Inner.TheVariants.{Submit, Recover, Announce, Declare, Execute, Crash}
+use Rattle.tp_topology.specs.Counting.{up_to}
+use Rattle.tp_topology.specs.Shape.{Shape}
+use Rattle.tp_topology.specs.Stability.{attached_to}
+use Rattle.tp_wire.specs.declared.message.Body.{Body}
+use Rattle.tp_wire.specs.declared.message.Body.TheVariants.{MSubmit, MPropose, MPayload, MProposeAck, MBump, MConsensus, MConsensusAck, MCommit, MRec, MRecAck, MPromises, MCommitted, MStable, MResult}
+use Rattle.tp_wire.specs.declared.message.Message.{Message}
+
+-- each number up to the clock is promised: to the command that it is attached to, or detached.
+-- The numbers up to `told` were announced. The newest attached promise stands first
+pub record ProcessState : Type 0 where
+  pub clock : ℕ
+  pub told : ℕ
+  pub attached : List Pair
+  pub sheets : CommandId → Sheet
+
+abbrev pub start : Shape → ProcessState
+start shape = record { clock = 0; told = 0; attached = []; sheets = λ id. blank shape }
+
+-- the new state, and what is sent
+abbrev pub Moved : Type 0
+Moved = ProcessState × List Message
+
+abbrev pub with_sheet : CommandId → Sheet → ProcessState → ProcessState
+with_sheet id sheet state = record {
+    clock = state.clock; told = state.told; attached = state.attached;
+    sheets = λ other. cond (same_id id other) sheet (state.sheets other) }
+
+-- Propose: the stamp of a proposal of at least `floor`
+abbrev pub next_stamp : ℕ → ProcessState → ℕ
+next_stamp floor state = max floor (state.clock + 1)
+
+-- Propose: the stamp becomes the clock, and is attached to the command; the numbers below it are detached
+abbrev pub proposing : CommandId → ℕ → Sheet → ProcessState → ProcessState
+proposing id t sheet state = record {
+    clock = t; told = state.told; attached = record { id = id; stamp = record { 0 = t } } ∷ state.attached;
+    sheets = λ other. cond (same_id id other) sheet (state.sheets other) }
+
+-- Tell bumps: the proposal, to the process of the same rank in each other accessed partition
+unfoldable pub bumps : Shape → Site → Command → ℕ → List Message
+bumps shape me c t =
+    to_each (Process me) (map (λ q. Process (site q me.rank.0)) (others_accessed shape c me.partition.0)) (MBump c.id (record { 0 = t }))
+
+-- Bump: the numbers above the clock up to t become detached promises
+abbrev pub bumped : ℕ → ProcessState → ProcessState
+bumped t state = record { clock = max t state.clock; told = state.told; attached = state.attached; sheets = state.sheets }
+
+-- Learn: the final stamp is told to the site's executor
+abbrev pub finished : Site → CommandId → Sheet → Option Command → Option ℕ → ProcessState → Moved
+finished me id sheet (Some c) (Some t) state =
+    (bumped t (with_sheet id sheet state), message (Process me) (Executor me) (MCommitted c (record { 0 = t })) ∷ [])
+finished me id sheet _ _ state = (with_sheet id sheet state, [])
+
+-- Learn: a partition's stamp becomes known, where it was not
+abbrev pub learned : Shape → Site → CommandId → ℕ → ℕ → Sheet → ProcessState → Moved
+learned shape me id q t sheet state = cond (is_some (stamp_of sheet q))
+    (with_sheet id sheet state, [])
+    (let known = with_stamp q t sheet in finished me id known known.command (final_stamp shape known known.command) state)
+
+-- Decide: the partition's stamp is told to every other process of all accessed partitions
+unfoldable pub commits : Shape → Site → Option Command → ℕ → List Message
+commits shape me None t = []
+commits shape me (Some c) t =
+    to_each (Process me) (filter (λ to. not (same_name to (Process me))) (flat_map (processes_of shape) (accessed shape c)))
+        (MCommit c me.partition (record { 0 = t }))
+
+-- Decide: then it is learned here
+abbrev pub decided : Shape → Site → CommandId → ℕ → Sheet → ProcessState → Moved
+decided shape me id t sheet state =
+    let moved = learned shape me id me.partition.0 t sheet state in
+    (moved.0, commits shape me sheet.command t ++ moved.1)
+
+-- a stamp is put to the vote of all ranks, at a ballot
+abbrev pub put_to_vote : Shape → Site → ℕ → ℕ → Option Command → List Message
+put_to_vote shape me b t None = []
+put_to_vote shape me b t (Some c) = to_each (Process me) (processes_of shape me.partition.0) (MConsensus c (record { 0 = t }) b)
+
+-- MSubmit: to each other rank, MPropose where it is of the fast quorum, else MPayload
+unfoldable pub proposals : Setting → Site → Command → ℕ → List Message
+proposals s me c t = map
+    (λ rank. message (Process me) (Process (site me.partition.0 rank)) (cond (s.in_quorum c rank) (MPropose c (record { 0 = t })) (MPayload c)))
+    (filter (λ rank. not (rank == me.rank.0)) (up_to s.shape.replicas))
+
+abbrev pub submitted : Setting → Site → Command → ℕ → Sheet → ProcessState → Moved
+submitted s me c t sheet state =
+    (proposing c.id t (acknowledged_own s me.partition.0 me.rank.0 t (with_proposal t Proposal (kept c sheet))) state,
+    proposals s me c t ++ bumps s.shape me (command_or c sheet) t)
+
+-- MSubmit(c), where c's home is here and c is fresh
+abbrev pub on_submit : Setting → Site → Command → ProcessState → Moved
+on_submit s me c state = cond ((c.home.0 == me.rank.0) && is_fresh me.partition.0 (state.sheets c.id))
+    (submitted s me c (next_stamp 0 state) (state.sheets c.id) state)
+    (state, [])
+
+abbrev pub proposed : Setting → Site → ActorName → Command → ℕ → Sheet → ProcessState → Moved
+proposed s me from c t sheet state =
+    (proposing c.id t (with_proposal t Proposal (kept c sheet)) state,
+    message (Process me) from (MProposeAck c.id (record { 0 = t })) ∷ bumps s.shape me (command_or c sheet) t)
+
+-- MPropose(c, floor), where c is fresh
+abbrev pub on_propose : Setting → Site → ActorName → Command → ℕ → ProcessState → Moved
+on_propose s me from c floor state = cond (is_fresh me.partition.0 (state.sheets c.id))
+    (proposed s me from c (next_stamp floor state) (state.sheets c.id) state)
+    (state, [])
+
+-- MPayload(c)
+abbrev pub on_payload : Command → ProcessState → Moved
+on_payload c state = (with_sheet c.id (kept c (state.sheets c.id)) state, [])
+
+abbrev pub chosen : Setting → Site → CommandId → FastChoice → Sheet → ProcessState → Moved
+chosen s me id (Fast t) sheet state = decided s.shape me id t.0 sheet state
+chosen s me id (Slow t) sheet state =
+    (with_sheet id (putting s.shape me.rank.0 t.0 sheet) state, put_to_vote s.shape me me.rank.0 t.0 sheet.command)
+
+-- where the whole fast quorum has acknowledged, its choice is decided or put to the vote
+abbrev pub gathered : Setting → Site → CommandId → Sheet → ProcessState → Moved
+gathered s me id sheet state = cond (is_full s.shape sheet)
+    (chosen s me id (fast_choice s.shape (present sheet.acknowledged)) sheet state)
+    (with_sheet id sheet state, [])
+
+-- MProposeAck(id, t) from a rank, where it can be acknowledged
+abbrev pub on_propose_ack : Setting → Site → ActorName → CommandId → ℕ → ProcessState → Moved
+on_propose_ack s me from id t state = cond (can_acknowledge s me.partition.0 me.rank.0 (rank_of from) (state.sheets id))
+    (gathered s me id (acknowledged (rank_of from) t (state.sheets id)) state)
+    (state, [])
+
+-- MCommit(c, q, t), where c accesses q
+abbrev pub on_commit : Setting → Site → Command → ℕ → ℕ → ProcessState → Moved
+on_commit s me c q t state = cond (is_accessed s.shape.partitions c q)
+    (learned s.shape me c.id q t (kept c (state.sheets c.id)) state)
+    (state, [])
+
+-- the attached promises above those told, ascending
+abbrev pub untold : ProcessState → List Pair
+untold state = reverse (filter (λ pair. nat_lt state.told pair.stamp.0) state.attached)
+
+-- Announce, where the clock is above what was told
+unfoldable pub announced : Shape → Site → ProcessState → List Message
+announced shape me state =
+    to_each (Process me) (executors_of shape me.partition.0) (MPromises state.told state.clock (untold state))
+
+abbrev pub on_announce : Shape → Site → ProcessState → Moved
+on_announce shape me state = cond (nat_lt state.told state.clock)
+    (record { clock = state.clock; told = state.clock; attached = state.attached; sheets = state.sheets }, announced shape me state)
+    (state, [])
+
+-- the rule of each kind of message
+abbrev pub on_body : Setting → Site → ActorName → Body → ProcessState → Moved
+on_body s me from (MSubmit c) state = on_submit s me c state
+on_body s me from (MPropose c floor) state = on_propose s me from c floor.0 state
+on_body s me from (MPayload c) state = on_payload c state
+on_body s me from (MProposeAck id t) state = on_propose_ack s me from id t.0 state
+on_body s me from (MCommit c q t) state = on_commit s me c q.0 t.0 state
+on_body s me from _ state = (state, [])
+
+-- stamps stay below this
+abbrev pub LIMIT : ℕ
+LIMIT = 2 ^ 48
+
+-- a step that would bring the clock to the limit changes nothing and sends nothing
+abbrev pub with_room : ProcessState → Moved → Moved
+with_room state moved = cond (nat_lt moved.0.clock LIMIT) moved (state, [])
+
+-- a message to another actor, or that names what is outside the shape, changes nothing and sends nothing
+abbrev pub on_message : Setting → Site → Message → ProcessState → Moved
+on_message s me m state =
+    cond (same_name m.to (Process me) && is_name_of s.shape m.from && is_body_at s.shape me.partition.0 m.body)
+        (with_room state (on_body s me m.from m.body state))
+        (state, [])
+
+abbrev pub on_inner : Setting → Site → Inner → ProcessState → Moved
+on_inner s me Announce state = on_announce s.shape me state
+on_inner s me _ state = (state, [])
+
+abbrev pub react : Setting → Site → Act → ProcessState → Moved
+react s me (Took m) state = on_message s me m state
+react s me (Did inner) state = on_inner s me inner state
+
+-- after a list of acts, the newest first
+abbrev pub state_after : Setting → Site → List Act → ProcessState
+state_after s me [] = start s.shape
+state_after s me (act ∷ before) = (react s me act (state_after s me before)).0
+
+-- the step of its own that a process may make
+abbrev pub enabled : ProcessState → Option Inner
+enabled state = cond (nat_lt state.told state.clock) (Some Announce) None
+
+-- each promised number, with the command that it is attached to, if any
+pub record IsPromise (state : ProcessState) (n : ℕ) (owner : Option CommandId) : Type 0 where
+  pub made : (1 ≤ n) × (n ≤ state.clock)
+  pub owned : attached_to state.attached n ≡ owner

@@ -1,0 +1,116 @@
+-- What a process keeps of one command.
+use Rattle.std.specs.Prelude.{ℕ, ◌==◌, ◌&&◌, nat_lt, nat_le, Bool, true, false, cond, List, [], ◌∷◌, Option, Some, None, is_none, is_some, length, map, replicate, unwrap_or}
+use Rattle.std.specs.List.{list_all}
+use Rattle.tp_base.specs.declared.names.Made.{Made}
+use Rattle.tp_base.specs.declared.names.Made.TheVariants.{Proposal, Recovery}
+use Rattle.tp_choice.specs.declared.answer.RecoveryAnswer.{RecoveryAnswer}
+use Rattle.tp_ops.specs.declared.command.Command.{Command}
+use Rattle.tp_quorum.specs.Choice.{present, greatest}
+use Rattle.tp_rules.specs.Addresses.{accessed}
+use Rattle.tp_rules.specs.Tables.{nth, with_nth, kept_at}
+use Rattle.tp_topology.specs.Shape.{Shape, in_ring, fast_size}
+
+-- what the rules take of the store's shape, and which ranks are of a command's fast quorum
+pub record Setting : Type 0 where
+  pub shape : Shape
+  pub in_quorum : Command → ℕ → Bool
+
+-- the fast quorum of each command is the ring of its home
+abbrev pub ring_setting : Shape → Setting
+ring_setting shape = record { shape = shape; in_quorum = λ c rank. in_ring shape c.home.0 rank }
+
+-- a proposal's stamp, and how it was made
+pub record Proposed : Type 0 where
+  pub stamp : ℕ
+  pub made : Made
+
+-- known by partition, acknowledged, answers and votes by rank; a value put has a ballot above 0
+pub record Sheet : Type 0 where
+  pub command : Option Command
+  pub proposal : Option Proposed
+  pub ballot : ℕ
+  pub accepted_ballot : ℕ
+  pub accepted_stamp : ℕ
+  pub known : List (Option ℕ)
+  pub acknowledged : List (Option ℕ)
+  pub tried : ℕ
+  pub answers : List (Option RecoveryAnswer)
+  pub putting_ballot : ℕ
+  pub putting_stamp : ℕ
+  pub votes : List Bool
+
+-- of a command that a process has not heard of
+unfoldable pub blank : Shape → Sheet
+blank shape = record {
+    command = None; proposal = None; ballot = 0; accepted_ballot = 0; accepted_stamp = 0;
+    known = replicate shape.partitions None; acknowledged = replicate shape.replicas None; tried = 0;
+    answers = replicate shape.replicas None; putting_ballot = 0; putting_stamp = 0; votes = replicate shape.replicas false }
+
+-- the stamp of a partition, where it is known
+abbrev pub stamp_of : Sheet → ℕ → Option ℕ
+stamp_of sheet q = kept_at sheet.known q
+
+-- no proposal, no ballot, and the partition's stamp isn't known
+abbrev pub is_fresh : ℕ → Sheet → Bool
+is_fresh p sheet = is_none sheet.proposal && (sheet.ballot == 0) && is_none (stamp_of sheet p)
+
+-- the command that is kept, or else this one
+abbrev pub command_or : Command → Sheet → Command
+command_or c sheet = unwrap_or sheet.command c
+
+-- with a command kept: the first one stays
+abbrev pub kept : Command → Sheet → Sheet
+kept c sheet = record sheet { command = Some (command_or c sheet) }
+
+abbrev pub with_proposal : ℕ → Made → Sheet → Sheet
+with_proposal t made sheet = record sheet { proposal = Some (record { stamp = t; made = made }) }
+
+abbrev pub is_proposal : Made → Bool
+is_proposal Proposal = true
+is_proposal Recovery = false
+
+abbrev pub is_made_by_proposal : Option Proposed → Bool
+is_made_by_proposal None = false
+is_made_by_proposal (Some p) = is_proposal p.made
+
+-- whether the command kept has its home here, and a rank is of its quorum
+abbrev pub is_member : Setting → ℕ → ℕ → Option Command → Bool
+is_member s home rank None = false
+is_member s home rank (Some c) = (c.home.0 == home) && s.in_quorum c rank
+
+-- whether the process of a rank of a partition counts another rank's acknowledgement
+abbrev pub can_acknowledge : Setting → ℕ → ℕ → ℕ → Sheet → Bool
+can_acknowledge s p own rank sheet =
+    is_member s own rank sheet.command && is_made_by_proposal sheet.proposal && (sheet.ballot == 0)
+    && (sheet.putting_ballot == 0) && is_none (stamp_of sheet p) && is_none (kept_at sheet.acknowledged rank)
+    && nat_lt (length (present sheet.acknowledged)) (fast_size s.shape)
+
+abbrev pub acknowledged : ℕ → ℕ → Sheet → Sheet
+acknowledged rank t sheet = record sheet { acknowledged = with_nth sheet.acknowledged rank (Some t) }
+
+-- the own proposal is acknowledged where another's would be
+abbrev pub acknowledged_own : Setting → ℕ → ℕ → ℕ → Sheet → Sheet
+acknowledged_own s p own t sheet = cond (can_acknowledge s p own own sheet) (acknowledged own t sheet) sheet
+
+-- whether the whole fast quorum has acknowledged
+abbrev pub is_full : Shape → Sheet → Bool
+is_full shape sheet = length (present sheet.acknowledged) == fast_size shape
+
+-- with a stamp put at a ballot, without votes
+abbrev pub putting : Shape → ℕ → ℕ → Sheet → Sheet
+putting shape b t sheet = record sheet { putting_ballot = b; putting_stamp = t; votes = replicate shape.replicas false }
+
+abbrev pub with_stamp : ℕ → ℕ → Sheet → Sheet
+with_stamp q t sheet = record sheet { known = with_nth sheet.known q (Some t) }
+
+abbrev pub stamps_of : Shape → Sheet → Command → List (Option ℕ)
+stamps_of shape sheet c = map (stamp_of sheet) (accessed shape c)
+
+-- the greatest of the stamps, where each is known
+abbrev pub greatest_known : List (Option ℕ) → Option ℕ
+greatest_known stamps = cond (list_all is_some stamps) (Some (greatest (present stamps))) None
+
+-- the command's stamp, where those of all accessed partitions are known
+abbrev pub final_stamp : Shape → Sheet → Option Command → Option ℕ
+final_stamp shape sheet None = None
+final_stamp shape sheet (Some c) = greatest_known (stamps_of shape sheet c)

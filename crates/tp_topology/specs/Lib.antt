@@ -1,0 +1,4 @@
+pub mod Counting
+pub mod Shape
+pub mod Ballots
+pub mod Stability

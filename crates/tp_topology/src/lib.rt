@@ -1,0 +1,6 @@
+//! The shape of the replicated store, and the sizes of its quorums.
+#![tactic(auto)]
+
+mod topology;
+
+pub use topology::{BadShape, Topology};
