@@ -110,3 +110,39 @@ impl Duplicate for u8 {
         Ok(*self)
     }
 }
+
+impl Duplicate for u32 {
+    fn copy(&self) -> Result<Self, NoMemory> {
+        Ok(*self)
+    }
+}
+
+impl Duplicate for Rank {
+    fn copy(&self) -> Result<Self, NoMemory> {
+        Ok(*self)
+    }
+}
+
+impl Duplicate for Stamp {
+    fn copy(&self) -> Result<Self, NoMemory> {
+        Ok(*self)
+    }
+}
+
+impl Duplicate for CommandId {
+    fn copy(&self) -> Result<Self, NoMemory> {
+        Ok(*self)
+    }
+}
+
+impl Duplicate for Site {
+    fn copy(&self) -> Result<Self, NoMemory> {
+        Ok(*self)
+    }
+}
+
+impl Duplicate for Pair {
+    fn copy(&self) -> Result<Self, NoMemory> {
+        Ok(*self)
+    }
+}
