@@ -1,3 +1,5 @@
+pub mod Fields
 pub mod Lists
 pub mod Names
 pub mod Partition
+pub mod Promises

@@ -1,4 +1,5 @@
-use Rattle.std.specs.Prelude.{◌≡◌, ℕ, zero, suc, Bool, true, false, ◌||◌, ◌⊎◌, List, [], ◌∷◌, ◌++◌}
+use Rattle.std.specs.Prelude.{◌≡◌, ℕ, zero, suc, Bool, true, ◌⊎◌, List, [], ◌∷◌, ◌++◌}
+use Rattle.std.specs.List.{list_any}
 
 -- x is an element of the list
 abbrev pub IsIn : {X : Type 0} → X → List X → Type 0
@@ -12,8 +13,7 @@ Each P (x ∷ xs) = P x × Each P xs
 
 -- the test for an element that is the same as x
 abbrev pub has : {X : Type 0} → (X → X → Bool) → X → List X → Bool
-has same x [] = false
-has same x (y ∷ ys) = same x y || has same x ys
+has same x xs = list_any (same x) xs
 
 -- each element is before all that follow it
 abbrev pub Ascends : {X : Type 0} → (X → X → Bool) → List X → Type 0

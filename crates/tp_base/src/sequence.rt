@@ -110,6 +110,7 @@ impl Duplicate for u8 {
         Ok(*self)
     }
 }
+
 impl Duplicate for u32 {
     fn copy(&self) -> Result<Self, NoMemory> {
         Ok(*self)

@@ -1,0 +1,9 @@
+pub mod BigEndian
+pub mod CountUp
+pub mod Each
+pub mod Ends
+pub mod Members
+pub mod Options
+pub mod Orders
+pub mod Prefixes
+pub mod SameNames
