@@ -1,5 +1,5 @@
 -- Who sends to whom, and which messages an actor takes at all.
-use Rattle.std.specs.Prelude.{ℕ, ◌==◌, ◌&&◌, nat_le, not, Bool, true, false, List, [], ◌∷◌, map, filter}
+use Rattle.std.specs.Prelude.{ℕ, ◌==◌, ◌&&◌, nat_le, not, Bool, true, List, map, filter}
 use Rattle.tp_base.specs.declared.names.ActorName.{ActorName}
 use Rattle.tp_base.specs.declared.names.ActorName.TheVariants.{Process, Executor, Session}
 use Rattle.tp_base.specs.declared.names.Site.{Site}

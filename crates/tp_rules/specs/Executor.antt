@@ -1,10 +1,10 @@
 -- The rules of an executor.
-use Rattle.std.specs.Prelude.{ℕ, ◌==◌, ◌&&◌, nat_lt, not, Bool, true, false, cond, List, [], ◌∷◌, Option, Some, None, map, filter}
+use Rattle.std.specs.Prelude.{ℕ, ◌==◌, ◌&&◌, not, Bool, true, cond, List, [], ◌∷◌, Option, Some, None, map, filter}
 use Rattle.std.specs.List.{list_all, list_any}
 use Rattle.tp_base.specs.Lists.{has}
 use Rattle.tp_base.specs.Names.{same_id, same_name, key_lt}
 use Rattle.tp_base.specs.declared.names.ActorName.{ActorName}
-use Rattle.tp_base.specs.declared.names.ActorName.TheVariants.{Process, Executor, Session}
+use Rattle.tp_base.specs.declared.names.ActorName.TheVariants.{Executor, Session}
 use Rattle.tp_base.specs.declared.names.CommandId.{CommandId}
 use Rattle.tp_base.specs.declared.names.Key.{Key}
 use Rattle.tp_base.specs.declared.names.Pair.{Pair}
@@ -15,11 +15,11 @@ use Rattle.tp_ops.specs.Store.{Contents, empty, after_all, answers_of}
 use Rattle.tp_rules.specs.Acts.{Act, Took, Did}
 use Rattle.tp_rules.specs.Addresses.{message, others_accessed, rank_of, partition_of, is_name_of, is_body_at}
 use Rattle.tp_rules.specs.declared.event.Inner.{Inner}
-use Rattle.tp_rules.specs.declared.event.Inner.TheVariants.{Submit, Recover, Announce, Declare, Execute, Crash}
+use Rattle.tp_rules.specs.declared.event.Inner.TheVariants.{Execute}
 use Rattle.tp_topology.specs.Shape.{Shape}
 use Rattle.tp_topology.specs.Stability.{Telling, is_stable}
 use Rattle.tp_wire.specs.declared.message.Body.{Body}
-use Rattle.tp_wire.specs.declared.message.Body.TheVariants.{MSubmit, MPropose, MPayload, MProposeAck, MBump, MConsensus, MConsensusAck, MCommit, MRec, MRecAck, MPromises, MCommitted, MStable, MResult}
+use Rattle.tp_wire.specs.declared.message.Body.TheVariants.{MPromises, MCommitted, MResult}
 use Rattle.tp_wire.specs.declared.message.Message.{Message}
 
 -- a committed command, with the key that it is executed in the order of
@@ -101,9 +101,10 @@ enabled shape me state = enabled_of shape me state (least (waiting state))
 -- Execute: the partition's operations are applied, and the answers go to the session
 abbrev pub executed : Shape → Site → Command → ExecutorState → Moved
 executed shape me c state =
-    let ops = ops_on shape.partitions me.partition.0 c.ops in
-    (record state { executed = c.id ∷ state.executed; contents = after_all ops state.contents },
-    message (Executor me) (Session c.id.session) (MResult c.id me.partition (answers_of ops state.contents)) ∷ [])
+    let ops = ops_on shape.partitions me.partition.0 c.ops in (
+      record state { executed = c.id ∷ state.executed; contents = after_all ops state.contents },
+      message (Executor me) (Session c.id.session) (MResult c.id me.partition (answers_of ops state.contents)) ∷ [],
+    )
 
 abbrev pub execute_least : Shape → Site → Option Committed → ExecutorState → Moved
 execute_least shape me None state = (state, [])
@@ -123,8 +124,8 @@ on_body me from _ state = (state, [])
 abbrev pub on_message : Shape → Site → Message → ExecutorState → Moved
 on_message shape me m state =
     cond (same_name m.to (Executor me) && is_name_of shape m.from && is_body_at shape me.partition.0 m.body)
-        (on_body me m.from m.body state)
-        (state, [])
+    (on_body me m.from m.body state)
+    (state, [])
 
 abbrev pub on_inner : Shape → Site → Inner → ExecutorState → Moved
 on_inner shape me (Execute id) state = on_execute shape me state

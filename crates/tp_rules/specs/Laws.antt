@@ -1,5 +1,5 @@
 -- What every run is held to. No clock, promise, ballot or quorum is named here. Journals in their own order.
-use Rattle.std.specs.Prelude.{ℕ, ◌≡◌, Bool, true, List, [], ◌∷◌, ◌++◌, Option, Some, reverse, map}
+use Rattle.std.specs.Prelude.{ℕ, ◌≡◌, true, List, ◌∷◌, ◌++◌, Some, reverse, map}
 use Rattle.tp_base.specs.Lists.{has, IsIn, IsPrefixOf, Ascends}
 use Rattle.tp_base.specs.Names.{same_id, key_lt}
 use Rattle.tp_base.specs.declared.names.CommandId.{CommandId}

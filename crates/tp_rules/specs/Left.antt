@@ -1,12 +1,11 @@
 -- Why every run ends: sixteen counts, of which each entry lowers one and raises none that stands before it.
-use Rattle.std.specs.Prelude.{ℕ, suc, ◌+◌, ◌-◌, ◌*◌, ◌^◌, ◌==◌, nat_lt, not, Bool, true, false, cond, List, [], ◌∷◌, Option, Some, None, length, map, filter, is_some}
-use Rattle.std.specs.List.{list_any, flat_map}
+use Rattle.std.specs.Prelude.{ℕ, ◌+◌, ◌-◌, ◌*◌, ◌^◌, ◌==◌, nat_lt, not, Bool, true, false, List, [], ◌∷◌, length, map, filter}
+use Rattle.std.specs.List.{list_any}
 use Rattle.tp_base.specs.Lists.{has}
 use Rattle.tp_base.specs.Names.{same_id}
-use Rattle.tp_base.specs.declared.names.ActorName.TheVariants.{Process, Executor, Session}
+use Rattle.tp_base.specs.declared.names.ActorName.TheVariants.{Process, Executor}
 use Rattle.tp_base.specs.declared.names.CommandId.{CommandId}
 use Rattle.tp_base.specs.declared.names.Site.{Site}
-use Rattle.tp_ops.specs.declared.command.Command.{Command}
 use Rattle.tp_rules.specs.Executor as executor
 use Rattle.tp_rules.specs.Journal.{acts, sent}
 use Rattle.tp_rules.specs.Outcome.{is_submission_of}
@@ -15,9 +14,8 @@ use Rattle.tp_rules.specs.Plan.{deliveries_left, is_planned}
 use Rattle.tp_rules.specs.Process as process
 use Rattle.tp_rules.specs.Sheet.{ring_setting}
 use Rattle.tp_rules.specs.declared.event.Entry.{Entry}
-use Rattle.tp_rules.specs.declared.event.Parcel.{Parcel}
 use Rattle.tp_script.specs.declared.script.PlanLine.{PlanLine}
-use Rattle.tp_script.specs.declared.script.PlanLine.TheVariants.{Crash as CrashLine, Recover as RecoverLine, Lose, Repeat, RepeatAll}
+use Rattle.tp_script.specs.declared.script.PlanLine.TheVariants.{Crash as CrashLine, Recover as RecoverLine}
 use Rattle.tp_script.specs.declared.script.Script.{Script}
 use Rattle.tp_wire.specs.declared.message.Body.{Body}
 use Rattle.tp_wire.specs.declared.message.Body.TheVariants.{MSubmit, MPropose, MPayload, MProposeAck, MBump, MConsensus, MConsensusAck, MCommit, MRec, MRecAck, MPromises, MCommitted, MStable, MResult}

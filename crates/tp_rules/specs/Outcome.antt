@@ -1,8 +1,7 @@
 -- What a journal comes to: commits, executions, the line of commands, and replies. The newest entry first.
-use Rattle.std.specs.Prelude.{ℕ, ◌+◌, ◌==◌, ◌&&◌, ◌||◌, not, Bool, true, false, cond, List, [], ◌∷◌, ◌++◌, Option, Some, None, is_some, option_map, filter, find, filter_map, map}
-use Rattle.std.specs.Option.{option_and_then}
+use Rattle.std.specs.Prelude.{ℕ, ◌==◌, ◌&&◌, ◌||◌, Bool, false, cond, List, [], ◌∷◌, ◌++◌, Option, Some, None, is_some, filter, find, filter_map}
 use Rattle.tp_base.specs.Lists.{has}
-use Rattle.tp_base.specs.Names.{same_id, same_name, same_site}
+use Rattle.tp_base.specs.Names.{same_id, same_name}
 use Rattle.tp_base.specs.declared.names.ActorName.{ActorName}
 use Rattle.tp_base.specs.declared.names.ActorName.TheVariants.{Process, Executor, Session}
 use Rattle.tp_base.specs.declared.names.CommandId.{CommandId}
@@ -17,13 +16,11 @@ use Rattle.tp_rules.specs.Journal.{acts, client_of}
 use Rattle.tp_rules.specs.Session as session
 use Rattle.tp_rules.specs.declared.event.Entry.{Entry}
 use Rattle.tp_rules.specs.declared.event.Event.{Event}
-use Rattle.tp_rules.specs.declared.event.Event.TheVariants.{Deliver, Dropped, Inner as OfItself}
-use Rattle.tp_rules.specs.declared.event.Inner.{Inner}
-use Rattle.tp_rules.specs.declared.event.Inner.TheVariants.{Submit, Recover, Announce, Declare, Execute, Crash}
+use Rattle.tp_rules.specs.declared.event.Event.TheVariants.{Inner as OfItself}
+use Rattle.tp_rules.specs.declared.event.Inner.TheVariants.{Submit, Execute}
 use Rattle.tp_script.specs.declared.script.Script.{Script}
 use Rattle.tp_wire.specs.declared.message.Body.{Body}
-use Rattle.tp_wire.specs.declared.message.Body.TheVariants.{MSubmit, MPropose, MPayload, MProposeAck, MBump, MConsensus, MConsensusAck, MCommit, MRec, MRecAck, MPromises, MCommitted, MStable, MResult}
-use Rattle.tp_wire.specs.declared.message.Message.{Message}
+use Rattle.tp_wire.specs.declared.message.Body.TheVariants.{MCommitted}
 
 -- a process has committed a command at a stamp
 pub record Commit : Type 0 where
@@ -78,7 +75,7 @@ share script p ids = filter (λ id. accesses script p (command_of script id)) id
 abbrev pub reply_to : Script → List Entry → CommandId → Option (List Answer)
 reply_to script older id =
     session.reply script.topology (client_of script id.session)
-        (session.state_after script.topology (client_of script id.session) (acts older (Session id.session))) id.number
+    (session.state_after script.topology (client_of script id.session) (acts older (Session id.session))) id.number
 
 abbrev pub is_submit : ℕ → Event → Bool
 is_submit n (OfItself (Submit m)) = n == m

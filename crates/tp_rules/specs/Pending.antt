@@ -1,5 +1,5 @@
 -- The steps that may come next, in their order, and the journals in which the picks choose among them.
-use Rattle.std.specs.Prelude.{ℕ, ◌≡◌, ◌==◌, ◌%◌, nat_lt, not, ◌&&◌, Bool, true, false, cond, List, [], ◌∷◌, ◌++◌, Option, Some, None, is_none, is_some, length, map, filter, filter_map, option_map, reverse, slice_get, unwrap_or}
+use Rattle.std.specs.Prelude.{ℕ, ◌≡◌, ◌%◌, nat_lt, ◌&&◌, Bool, cond, List, [], ◌∷◌, ◌++◌, Option, Some, None, is_none, length, map, filter_map, reverse, slice_get, unwrap_or}
 use Rattle.std.specs.List.{flat_map}
 use Rattle.tp_base.specs.declared.names.ActorName.{ActorName}
 use Rattle.tp_base.specs.declared.names.ActorName.TheVariants.{Process, Executor, Session}
@@ -50,8 +50,8 @@ event_by (Times n) parcel = Deliver parcel.entry parcel.place
 abbrev pub parcel_item : Script → List Entry → Parcel → Option Item
 parcel_item script older parcel =
     cond (is_waiting script older parcel.message.to && nat_lt 0 (deliveries_left script older parcel))
-        (Some (item parcel.message.to (event_by (fate_of script older parcel) parcel)))
-        None
+    (Some (item parcel.message.to (event_by (fate_of script older parcel) parcel)))
+    None
 
 -- a step that an actor may make by itself
 abbrev pub own_item : Script → List Entry → ActorName → Option Item

@@ -1,14 +1,14 @@
 -- The rules of a process: what each message and each step of its own changes and sends.
-use Rattle.std.specs.Prelude.{ℕ, ◌+◌, ◌^◌, ◌≤◌, ◌≡◌, ◌==◌, ◌&&◌, nat_lt, nat_le, max, not, Bool, true, false, cond, List, [], ◌∷◌, ◌++◌, Option, Some, None, is_none, is_some, map, filter, reverse}
+use Rattle.std.specs.Prelude.{ℕ, ◌^◌, ◌≤◌, ◌≡◌, ◌==◌, ◌&&◌, nat_lt, not, cond, List, [], ◌∷◌, ◌++◌, Option, Some, None, is_some, map, filter, reverse}
 use Rattle.std.specs.List.{flat_map}
 use Rattle.tp_base.specs.Names.{same_id, same_name}
+use Rattle.tp_base.specs.Promises.{proposed as proposed_stamp, bumped as bumped_clock}
 use Rattle.tp_base.specs.declared.names.ActorName.{ActorName}
-use Rattle.tp_base.specs.declared.names.ActorName.TheVariants.{Process, Executor, Session}
+use Rattle.tp_base.specs.declared.names.ActorName.TheVariants.{Process, Executor}
 use Rattle.tp_base.specs.declared.names.CommandId.{CommandId}
-use Rattle.tp_base.specs.declared.names.Made.TheVariants.{Proposal, Recovery}
+use Rattle.tp_base.specs.declared.names.Made.TheVariants.{Proposal}
 use Rattle.tp_base.specs.declared.names.Pair.{Pair}
 use Rattle.tp_base.specs.declared.names.Site.{Site}
-use Rattle.tp_base.specs.declared.names.Stamp.{Stamp}
 use Rattle.tp_ops.specs.declared.command.Command.{Command}
 use Rattle.tp_ops.specs.Parts.{is_accessed}
 use Rattle.tp_quorum.specs.Choice.{present, fast_choice}
@@ -18,12 +18,12 @@ use Rattle.tp_rules.specs.Acts.{Act, Took, Did}
 use Rattle.tp_rules.specs.Addresses.{site, message, to_each, others_accessed, accessed, processes_of, executors_of, rank_of, is_name_of, is_body_at}
 use Rattle.tp_rules.specs.Sheet.{Sheet, Setting, blank, stamp_of, is_fresh, command_or, kept, with_proposal, can_acknowledge, acknowledged, acknowledged_own, is_full, putting, with_stamp, final_stamp}
 use Rattle.tp_rules.specs.declared.event.Inner.{Inner}
-use Rattle.tp_rules.specs.declared.event.Inner.TheVariants.{Submit, Recover, Announce, Declare, Execute, Crash}
+use Rattle.tp_rules.specs.declared.event.Inner.TheVariants.{Announce}
 use Rattle.tp_topology.specs.Counting.{up_to}
 use Rattle.tp_topology.specs.Shape.{Shape}
 use Rattle.tp_topology.specs.Stability.{attached_to}
 use Rattle.tp_wire.specs.declared.message.Body.{Body}
-use Rattle.tp_wire.specs.declared.message.Body.TheVariants.{MSubmit, MPropose, MPayload, MProposeAck, MBump, MConsensus, MConsensusAck, MCommit, MRec, MRecAck, MPromises, MCommitted, MStable, MResult}
+use Rattle.tp_wire.specs.declared.message.Body.TheVariants.{MSubmit, MPropose, MPayload, MProposeAck, MBump, MConsensus, MCommit, MPromises, MCommitted}
 use Rattle.tp_wire.specs.declared.message.Message.{Message}
 
 -- each number up to the clock is promised: to the command that it is attached to, or detached.
@@ -43,18 +43,24 @@ Moved = ProcessState × List Message
 
 abbrev pub with_sheet : CommandId → Sheet → ProcessState → ProcessState
 with_sheet id sheet state = record {
-    clock = state.clock; told = state.told; attached = state.attached;
-    sheets = λ other. cond (same_id id other) sheet (state.sheets other) }
+  clock = state.clock;
+  told = state.told;
+  attached = state.attached;
+  sheets = λ other. cond (same_id id other) sheet (state.sheets other);
+}
 
 -- Propose: the stamp of a proposal of at least `floor`
 abbrev pub next_stamp : ℕ → ProcessState → ℕ
-next_stamp floor state = max floor (state.clock + 1)
+next_stamp floor state = proposed_stamp floor state.clock
 
 -- Propose: the stamp becomes the clock, and is attached to the command; the numbers below it are detached
 abbrev pub proposing : CommandId → ℕ → Sheet → ProcessState → ProcessState
 proposing id t sheet state = record {
-    clock = t; told = state.told; attached = record { id = id; stamp = record { 0 = t } } ∷ state.attached;
-    sheets = λ other. cond (same_id id other) sheet (state.sheets other) }
+  clock = t;
+  told = state.told;
+  attached = record { id = id; stamp = record { 0 = t } } ∷ state.attached;
+  sheets = λ other. cond (same_id id other) sheet (state.sheets other);
+}
 
 -- Tell bumps: the proposal, to the process of the same rank in each other accessed partition
 unfoldable pub bumps : Shape → Site → Command → ℕ → List Message
@@ -63,7 +69,7 @@ bumps shape me c t =
 
 -- Bump: the numbers above the clock up to t become detached promises
 abbrev pub bumped : ℕ → ProcessState → ProcessState
-bumped t state = record { clock = max t state.clock; told = state.told; attached = state.attached; sheets = state.sheets }
+bumped t state = record { clock = bumped_clock t state.clock; told = state.told; attached = state.attached; sheets = state.sheets }
 
 -- Learn: the final stamp is told to the site's executor
 abbrev pub finished : Site → CommandId → Sheet → Option Command → Option ℕ → ProcessState → Moved
@@ -82,7 +88,7 @@ unfoldable pub commits : Shape → Site → Option Command → ℕ → List Mess
 commits shape me None t = []
 commits shape me (Some c) t =
     to_each (Process me) (filter (λ to. not (same_name to (Process me))) (flat_map (processes_of shape) (accessed shape c)))
-        (MCommit c me.partition (record { 0 = t }))
+    (MCommit c me.partition (record { 0 = t }))
 
 -- Decide: then it is learned here
 abbrev pub decided : Shape → Site → CommandId → ℕ → Sheet → ProcessState → Moved
@@ -102,9 +108,10 @@ proposals s me c t = map
     (filter (λ rank. not (rank == me.rank.0)) (up_to s.shape.replicas))
 
 abbrev pub submitted : Setting → Site → Command → ℕ → Sheet → ProcessState → Moved
-submitted s me c t sheet state =
-    (proposing c.id t (acknowledged_own s me.partition.0 me.rank.0 t (with_proposal t Proposal (kept c sheet))) state,
-    proposals s me c t ++ bumps s.shape me (command_or c sheet) t)
+submitted s me c t sheet state = (
+  proposing c.id t (acknowledged_own s me.partition.0 me.rank.0 t (with_proposal t Proposal (kept c sheet))) state,
+  proposals s me c t ++ bumps s.shape me (command_or c sheet) t,
+)
 
 -- MSubmit(c), where c's home is here and c is fresh
 abbrev pub on_submit : Setting → Site → Command → ProcessState → Moved
@@ -113,9 +120,10 @@ on_submit s me c state = cond ((c.home.0 == me.rank.0) && is_fresh me.partition.
     (state, [])
 
 abbrev pub proposed : Setting → Site → ActorName → Command → ℕ → Sheet → ProcessState → Moved
-proposed s me from c t sheet state =
-    (proposing c.id t (with_proposal t Proposal (kept c sheet)) state,
-    message (Process me) from (MProposeAck c.id (record { 0 = t })) ∷ bumps s.shape me (command_or c sheet) t)
+proposed s me from c t sheet state = (
+  proposing c.id t (with_proposal t Proposal (kept c sheet)) state,
+  message (Process me) from (MProposeAck c.id (record { 0 = t })) ∷ bumps s.shape me (command_or c sheet) t,
+)
 
 -- MPropose(c, floor), where c is fresh
 abbrev pub on_propose : Setting → Site → ActorName → Command → ℕ → ProcessState → Moved
@@ -185,8 +193,8 @@ with_room state moved = cond (nat_lt moved.0.clock LIMIT) moved (state, [])
 abbrev pub on_message : Setting → Site → Message → ProcessState → Moved
 on_message s me m state =
     cond (same_name m.to (Process me) && is_name_of s.shape m.from && is_body_at s.shape me.partition.0 m.body)
-        (with_room state (on_body s me m.from m.body state))
-        (state, [])
+    (with_room state (on_body s me m.from m.body state))
+    (state, [])
 
 abbrev pub on_inner : Setting → Site → Inner → ProcessState → Moved
 on_inner s me Announce state = on_announce s.shape me state

@@ -2,7 +2,7 @@
 use Rattle.std.specs.Prelude.{◌≡◌, List, Option, Some}
 use Rattle.tp_rules.specs.Acts.{Act, Identity, ProcessAt, ExecutorAt, SessionOf}
 use Rattle.tp_rules.specs.declared.event.Inner.{Inner}
-use Rattle.tp_rules.specs.declared.event.Inner.TheVariants.{Submit, Recover, Announce, Declare, Execute, Crash}
+use Rattle.tp_rules.specs.declared.event.Inner.TheVariants.{Recover, Crash}
 use Rattle.tp_rules.specs.Executor as executor
 use Rattle.tp_rules.specs.Process as process
 use Rattle.tp_rules.specs.Session as session

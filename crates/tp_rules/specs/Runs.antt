@@ -1,5 +1,5 @@
 -- Which journals follow the rules, with the plan of the script and without.
-use Rattle.std.specs.Prelude.{ℕ, ◌≡◌, ◌<◌, ◌==◌, Bool, true, false, List, [], ◌∷◌, Option, Some, None, is_some, reverse}
+use Rattle.std.specs.Prelude.{◌≡◌, ◌<◌, true, false, List, [], ◌∷◌, Option, Some, None, reverse}
 use Rattle.tp_base.specs.declared.names.ActorName.{ActorName}
 use Rattle.tp_rules.specs.Acts.{Act}
 use Rattle.tp_rules.specs.Journal.{output_at, act_of, acts, identity_in, is_known, is_live}

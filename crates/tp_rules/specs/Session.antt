@@ -1,22 +1,21 @@
 -- The rules of a session.
-use Rattle.std.specs.Prelude.{ℕ, ◌+◌, ◌==◌, ◌&&◌, nat_lt, nat_le, not, Bool, true, false, cond, List, [], ◌∷◌, Option, Some, None, is_some, is_none, length, map, replicate, unwrap_or}
+use Rattle.std.specs.Prelude.{ℕ, ◌+◌, ◌==◌, ◌&&◌, nat_lt, nat_le, not, Bool, false, cond, List, [], ◌∷◌, Option, Some, None, is_some, is_none, length, map, replicate, unwrap_or}
 use Rattle.std.specs.List.{list_all}
 use Rattle.tp_base.specs.Names.{same_name}
-use Rattle.tp_base.specs.declared.names.ActorName.{ActorName}
-use Rattle.tp_base.specs.declared.names.ActorName.TheVariants.{Process, Executor, Session}
+use Rattle.tp_base.specs.declared.names.ActorName.TheVariants.{Process, Session}
 use Rattle.tp_base.specs.declared.names.CommandId.{CommandId}
 use Rattle.tp_ops.specs.declared.command.Command.{Command}
 use Rattle.tp_ops.specs.declared.operation.Answer.{Answer}
 use Rattle.tp_ops.specs.Parts.{is_accessed, ops_on, merged}
 use Rattle.tp_rules.specs.Acts.{Act, Took, Did, Client}
-use Rattle.tp_rules.specs.Addresses.{site, message, to_each, accessed, is_name_of, is_body_at}
+use Rattle.tp_rules.specs.Addresses.{site, to_each, accessed, is_name_of, is_body_at}
 use Rattle.tp_rules.specs.Tables.{nth, with_nth, kept_at}
 use Rattle.tp_rules.specs.declared.event.Inner.{Inner}
-use Rattle.tp_rules.specs.declared.event.Inner.TheVariants.{Submit, Recover, Announce, Declare, Execute, Crash}
+use Rattle.tp_rules.specs.declared.event.Inner.TheVariants.{Submit}
 use Rattle.tp_topology.specs.Counting.{count_up_to}
 use Rattle.tp_topology.specs.Shape.{Shape}
 use Rattle.tp_wire.specs.declared.message.Body.{Body}
-use Rattle.tp_wire.specs.declared.message.Body.TheVariants.{MSubmit, MPropose, MPayload, MProposeAck, MBump, MConsensus, MConsensusAck, MCommit, MRec, MRecAck, MPromises, MCommitted, MStable, MResult}
+use Rattle.tp_wire.specs.declared.message.Body.TheVariants.{MSubmit, MResult}
 use Rattle.tp_wire.specs.declared.message.Message.{Message}
 
 -- how many commands were submitted, and for each command's number the answers kept, by partition
@@ -48,8 +47,8 @@ open_count shape client state = count_up_to (λ n. not (is_answered shape client
 abbrev pub enabled : Shape → Client → SessionState → Option Inner
 enabled shape client state =
     cond (nat_lt state.submitted (length client.commands) && nat_lt (open_count shape client state) client.window)
-        (Some (Submit (state.submitted + 1)))
-        None
+    (Some (Submit (state.submitted + 1)))
+    None
 
 -- the command, to the process of its home in each accessed partition
 abbrev pub submissions : Shape → Client → Option Command → List Message
@@ -72,9 +71,9 @@ is_awaited shape q answers parts (Some c) =
 abbrev pub on_result : Shape → Client → CommandId → ℕ → List Answer → SessionState → Moved
 on_result shape client id q answers state =
     cond ((id.session.0 == client.session.0) && nat_le id.number state.submitted
-        && is_awaited shape q answers (state.kept id.number) (nth client.commands id.number))
-        (record { submitted = state.submitted; kept = λ n. cond (n == id.number) (with_nth (state.kept n) q (Some answers)) (state.kept n) }, [])
-        (state, [])
+    && is_awaited shape q answers (state.kept id.number) (nth client.commands id.number))
+    (record { submitted = state.submitted; kept = λ n. cond (n == id.number) (with_nth (state.kept n) q (Some answers)) (state.kept n) }, [])
+    (state, [])
 
 -- the rule of each kind of message
 abbrev pub on_body : Shape → Client → Body → SessionState → Moved
@@ -85,8 +84,8 @@ on_body shape client _ state = (state, [])
 abbrev pub on_message : Shape → Client → Message → SessionState → Moved
 on_message shape client m state =
     cond (same_name m.to (Session client.session) && is_name_of shape m.from && is_body_at shape 0 m.body)
-        (on_body shape client m.body state)
-        (state, [])
+    (on_body shape client m.body state)
+    (state, [])
 
 abbrev pub on_inner : Shape → Client → Inner → SessionState → Moved
 on_inner shape client (Submit n) state = on_submit shape client n state

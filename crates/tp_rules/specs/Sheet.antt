@@ -1,5 +1,5 @@
 -- What a process keeps of one command.
-use Rattle.std.specs.Prelude.{ℕ, ◌==◌, ◌&&◌, nat_lt, nat_le, Bool, true, false, cond, List, [], ◌∷◌, Option, Some, None, is_none, is_some, length, map, replicate, unwrap_or}
+use Rattle.std.specs.Prelude.{ℕ, ◌==◌, ◌&&◌, nat_lt, Bool, true, false, cond, List, Option, Some, None, is_none, is_some, length, map, replicate, unwrap_or}
 use Rattle.std.specs.List.{list_all}
 use Rattle.tp_base.specs.declared.names.Made.{Made}
 use Rattle.tp_base.specs.declared.names.Made.TheVariants.{Proposal, Recovery}
@@ -7,7 +7,7 @@ use Rattle.tp_choice.specs.declared.answer.RecoveryAnswer.{RecoveryAnswer}
 use Rattle.tp_ops.specs.declared.command.Command.{Command}
 use Rattle.tp_quorum.specs.Choice.{present, greatest}
 use Rattle.tp_rules.specs.Addresses.{accessed}
-use Rattle.tp_rules.specs.Tables.{nth, with_nth, kept_at}
+use Rattle.tp_rules.specs.Tables.{with_nth, kept_at}
 use Rattle.tp_topology.specs.Shape.{Shape, in_ring, fast_size}
 
 -- what the rules take of the store's shape, and which ranks are of a command's fast quorum
@@ -42,9 +42,19 @@ pub record Sheet : Type 0 where
 -- of a command that a process has not heard of
 unfoldable pub blank : Shape → Sheet
 blank shape = record {
-    command = None; proposal = None; ballot = 0; accepted_ballot = 0; accepted_stamp = 0;
-    known = replicate shape.partitions None; acknowledged = replicate shape.replicas None; tried = 0;
-    answers = replicate shape.replicas None; putting_ballot = 0; putting_stamp = 0; votes = replicate shape.replicas false }
+  command = None;
+  proposal = None;
+  ballot = 0;
+  accepted_ballot = 0;
+  accepted_stamp = 0;
+  known = replicate shape.partitions None;
+  acknowledged = replicate shape.replicas None;
+  tried = 0;
+  answers = replicate shape.replicas None;
+  putting_ballot = 0;
+  putting_stamp = 0;
+  votes = replicate shape.replicas false;
+}
 
 -- the stamp of a partition, where it is known
 abbrev pub stamp_of : Sheet → ℕ → Option ℕ

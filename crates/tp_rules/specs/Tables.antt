@@ -1,5 +1,5 @@
 -- Tables with a place for each rank or partition, from 1.
-use Rattle.std.specs.Prelude.{ℕ, zero, suc, List, [], ◌∷◌, Option, Some, None, slice_get, slice_set}
+use Rattle.std.specs.Prelude.{ℕ, zero, suc, List, Option, Some, None, slice_get, slice_set}
 
 -- the item at a place, from 1
 abbrev pub nth : {X : Type 0} → List X → ℕ → Option X

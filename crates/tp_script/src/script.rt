@@ -26,7 +26,10 @@ pub struct Script {
 #[derive(Clone, Copy, Debug, PartialEq, Eq)]
 pub enum PlanLine {
     /// The site crashes for good.
-    Crash { site: Site, after: u32 },
+    Crash {
+        site: Site,
+        after: u32,
+    },
     /// The site's process recovers a command.
     Recover {
         site: Site,
@@ -47,5 +50,7 @@ pub enum PlanLine {
         times: u8,
     },
     /// Each message comes several times.
-    RepeatAll { times: u8 },
+    RepeatAll {
+        times: u8,
+    },
 }

@@ -1,5 +1,5 @@
 -- Counting over the numbers from 1 up.
-use Rattle.std.specs.Prelude.{ℕ, ◌+◌, Bool, true, false, List, [], ◌∷◌, ◌++◌, cond, zero, suc}
+use Rattle.std.specs.Prelude.{ℕ, Bool, true, false, List, [], ◌∷◌, ◌++◌, cond, zero, suc}
 
 -- 1 to n
 abbrev pub up_to : ℕ → List ℕ

@@ -1,5 +1,5 @@
 -- The shape of the store, and its quorums.
-use Rattle.std.specs.Prelude.{ℕ, ◌+◌, ◌-◌, ◌*◌, ◌/◌, ◌%◌, ◌≤◌, ◌<◌, Bool, nat_lt}
+use Rattle.std.specs.Prelude.{ℕ, ◌+◌, ◌-◌, ◌/◌, ◌%◌, ◌≤◌, Bool, nat_lt}
 
 -- partitions 1 to `partitions`, ranks 1 to `replicas`, of which `failures` may fail
 pub record Shape : Type 0 where

@@ -8,7 +8,6 @@ use Rattle.tp_base.specs.declared.names.CommandId.{CommandId}
 use Rattle.tp_base.specs.declared.names.Pair.{Pair}
 use Rattle.tp_base.specs.declared.names.SessionId.{SessionId}
 use Rattle.tp_base.specs.declared.names.Site.{Site}
-use Rattle.tp_base.specs.declared.names.Stamp.{Stamp}
 use Rattle.tp_ops.specs.declared.command.Command.{Command}
 use Rattle.tp_ops.specs.declared.operation.Answer.{Answer}
 use Rattle.tp_ops.specs.declared.operation.Answer.TheVariants.{Missing, Value, Yes, No}

@@ -13,15 +13,28 @@ pub struct Message {
 #[derive(Debug, Drop)]
 pub enum Body {
     /// A session submits a command.
-    MSubmit { command: Command },
+    MSubmit {
+        command: Command,
+    },
     /// The home asks a member of the fast quorum for a proposal of at least the floor.
-    MPropose { command: Command, floor: Stamp },
+    MPropose {
+        command: Command,
+        floor: Stamp,
+    },
     /// The home tells the command to the others.
-    MPayload { command: Command },
+    MPayload {
+        command: Command,
+    },
     /// A member of the fast quorum tells its proposal.
-    MProposeAck { id: CommandId, stamp: Stamp },
+    MProposeAck {
+        id: CommandId,
+        stamp: Stamp,
+    },
     /// A proposal is told to the process of the same rank in another partition.
-    MBump { id: CommandId, stamp: Stamp },
+    MBump {
+        id: CommandId,
+        stamp: Stamp,
+    },
     /// A stamp is put to the vote at a ballot.
     MConsensus {
         command: Command,
@@ -29,7 +42,10 @@ pub enum Body {
         ballot: u64,
     },
     /// A vote for what was put at a ballot.
-    MConsensusAck { id: CommandId, ballot: u64 },
+    MConsensusAck {
+        id: CommandId,
+        ballot: u64,
+    },
     /// A partition's stamp of a command is told.
     MCommit {
         command: Command,
@@ -37,7 +53,10 @@ pub enum Body {
         stamp: Stamp,
     },
     /// A process recovers a command at a ballot.
-    MRec { command: Command, ballot: u64 },
+    MRec {
+        command: Command,
+        ballot: u64,
+    },
     /// The answer to a recovery: the accepted stamp with its ballot, or the proposal and 0.
     MRecAck {
         id: CommandId,
@@ -47,11 +66,20 @@ pub enum Body {
         ballot: u64,
     },
     /// A process announces its promises above `lo` up to `hi`, of which `pairs` are attached.
-    MPromises { lo: u64, hi: u64, pairs: Pairs },
+    MPromises {
+        lo: u64,
+        hi: u64,
+        pairs: Pairs,
+    },
     /// A process tells its executor a command's final stamp.
-    MCommitted { command: Command, stamp: Stamp },
+    MCommitted {
+        command: Command,
+        stamp: Stamp,
+    },
     /// A command is stable in the sender's partition.
-    MStable { id: CommandId },
+    MStable {
+        id: CommandId,
+    },
     /// The answers of a partition's operations.
     MResult {
         id: CommandId,
