@@ -5,9 +5,13 @@ mod calls;
 mod memory;
 mod sink;
 mod source;
+mod standard;
 mod sure;
+mod whole;
 
 pub use memory::{MemorySink, MemorySource};
 pub use sink::{Sink, WriteFault};
 pub use source::{Failed, Source};
+pub use standard::{StdSink, StdSource};
 pub use sure::{SureSink, SureSource};
+pub use whole::{ReadError, read_to_limit, write_all};
