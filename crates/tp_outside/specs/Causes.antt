@@ -1,4 +1,5 @@
 -- Counts of faults, and which answers they are the cause of.
+use Rattle.tp_outside.specs.declared.source.Failed.{Failed}
 use Rattle.std.specs.Prelude.{◌≡◌, ℕ, ◌+◌, ◌-◌, ◌^◌, ◌≤◌, min, Result, IsErrOf}
 
 -- a count after one more, which stands still at the greatest u64
@@ -14,3 +15,7 @@ pub record HasCause {T E : Type 0} (before now : ℕ) (result : Result T E) (fau
   pub later : before ≤ now
   pub failed : IsErrOf result fault → Rose before now
   pub kept : ¬ IsErrOf result fault → now ≡ before
+
+-- the one fault of a read
+abbrev pub read_failed : Failed
+read_failed = record {}

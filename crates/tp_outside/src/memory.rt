@@ -1,7 +1,7 @@
 ghost use Rattle.std.specs.Prelude.{◌≡◌, ◌↔◌, ℕ, List, [], ◌∷◌, ◌++◌, ◌<◌, ◌≤◌, Some, Contains, IsErr, IfOk, OnErr, IsErrOf, length, min, take, drop};
 ghost use Rattle.std.specs.Io.{ReadsAtMost, WritesAtMost};
 ghost use Rattle.std.specs.Io.KnownBytes.{ReadConsumes, WriteAppends};
-ghost use Rattle.tp_outside.specs.Causes.{HasCause, raised};
+ghost use Rattle.tp_outside.specs.Causes.{HasCause, read_failed, raised};
 
 use crate::calls::Calls;
 use crate::{Failed, Sink, Source, SureSink, SureSource, WriteFault};
@@ -45,12 +45,15 @@ impl MemorySource {
 impl Source for MemorySource {
     ghost left = { λ s. Some s.left };
 
+    ghost ended = { λ s. s.left ≡ [] };
+
     ghost faults = { λ s. s.faults };
 
     fn read(&mut self, buf: &mut [u8]) -> Result<usize, Failed>
         ensures bound { ReadsAtMost result buf.new }
         ensures bytes { ReadConsumes (Some self.old.left) (Some self.new.left) result buf.new }
-        ensures cause { HasCause self.old.faults self.new.faults result (record {}) }
+        ensures end { IfOk result (λ n. n ≡ 0 → 0 < length buf.new → self.new.left ≡ []) }
+        ensures cause { HasCause self.old.faults self.new.faults result read_failed }
 
         ensures fails { IsErr result ↔ Contains self.old.failing (raised self.old.calls) }
         ensures failed { OnErr result (self.new

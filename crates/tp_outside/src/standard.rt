@@ -1,7 +1,7 @@
 ghost use Rattle.std.specs.Prelude.{◌≡◌, ◌<◌, ◌≤◌, None, IfOk, OnErr, IsErrOf, length};
 ghost use Rattle.std.specs.Io.{ReadsAtMost, WritesAtMost};
 ghost use Rattle.std.specs.Io.KnownBytes.{ReadConsumes, WriteAppends};
-ghost use Rattle.tp_outside.specs.Causes.{HasCause, raised};
+ghost use Rattle.tp_outside.specs.Causes.{HasCause, read_failed, raised};
 
 use crate::{Failed, Sink, Source, WriteFault};
 use std::io::{Read, Write};
@@ -40,7 +40,7 @@ impl<R: Read> Source for StdSource<R> {
 
     fn read(&mut self, buf: &mut [u8]) -> Result<usize, Failed>
         ensures bound { ReadsAtMost result buf.new }
-        ensures cause { HasCause self.old.faults self.new.faults result (record {}) }
+        ensures cause { HasCause self.old.faults self.new.faults result read_failed }
         ensures raised { OnErr result (self.new.faults ≡ raised self.old.faults) }
 
         // It gives what the reader gives.

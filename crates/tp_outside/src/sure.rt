@@ -1,7 +1,7 @@
 ghost use Rattle.std.specs.Prelude.{◌≡◌, ℕ, List, [], ◌∷◌, ◌++◌, ◌<◌, ◌≤◌, Some, IsOk, IfOk, IsOkAnd, OnErr, IsErrOf, length, min, take, drop};
 ghost use Rattle.std.specs.Io.{ReadsAtMost, WritesAtMost};
 ghost use Rattle.std.specs.Io.KnownBytes.{ReadConsumes, WriteAppends};
-ghost use Rattle.tp_outside.specs.Causes.{HasCause};
+ghost use Rattle.tp_outside.specs.Causes.{HasCause, read_failed};
 
 use crate::{Failed, Sink, Source, WriteFault};
 use std::alloc::Global;
@@ -43,12 +43,15 @@ impl SureSource {
 impl Source for SureSource {
     ghost left = { λ s. Some s };
 
+    ghost ended = { λ s. s ≡ [] };
+
     ghost faults = { λ _. 0 };
 
     fn read(&mut self, buf: &mut [u8]) -> Result<usize, Failed>
         ensures bound { ReadsAtMost result buf.new }
         ensures bytes { ReadConsumes (Some self.old) (Some self.new) result buf.new }
-        ensures cause { HasCause 0 0 result (record {}) }
+        ensures end { IfOk result (λ n. n ≡ 0 → 0 < length buf.new → self.new ≡ []) }
+        ensures cause { HasCause 0 0 result read_failed }
 
         // It gives as many as there are and as fit.
         ensures count { IsOkAnd result (λ n. n ≡ min (length buf.old) (length self.old)) }

@@ -3,8 +3,8 @@ ghost use Rattle.std.specs.Io.KnownBytes.{Appends, Consumes, IsAtEnd};
 ghost use Rattle.tp_outside.specs.Causes.{HasCause};
 ghost use Rattle.tp_outside.specs.Bytes.{TakesAtMost, AppendsFront};
 
-use crate::{Failed, Sink, Source, WriteFault};
-use std::alloc::{AllocError, Global};
+use crate::{Sink, Source, WriteFault};
+use std::alloc::Global;
 use thiserror::Error;
 use tp_base::Bytes;
 
@@ -28,7 +28,7 @@ pub fn read_to_limit<S: Source>(
     ensures first { IfOk result (λ bytes. IfSome (S.left source.old) (λ left. bytes ≡ take limit left)) }
     ensures rest { IfOk result (λ bytes. Consumes (S.left source.old) (S.left source.new) bytes) }
     ensures most { IfOk result (λ bytes. length bytes ≤ limit) }
-    ensures end { IfOk result (λ bytes. length bytes < limit → IsAtEnd (S.left source.new)) }
+    ensures end { IfOk result (λ bytes. length bytes < limit → S.ended source.new × IsAtEnd (S.left source.new)) }
 
     // After a refusal too, what was taken is the front of what was left.
     ensures taken { TakesAtMost limit (S.left source.old) (S.left source.new) }
@@ -38,9 +38,8 @@ pub fn read_to_limit<S: Source>(
     let mut chunk = [0u8; CHUNK];
     while bytes.len() < limit {
         let room = CHUNK.min(limit - bytes.len());
-        let count = match source.read(&mut chunk[..room]) {
-            Ok(count) => count,
-            Err(Failed) => return Err(ReadError::Failed),
+        let Ok(count) = source.read(&mut chunk[..room]) else {
+            return Err(ReadError::Failed);
         };
         if count == 0 {
             break;
