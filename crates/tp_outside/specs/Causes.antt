@@ -10,7 +10,7 @@ raised count = min (count + 1) (2 ^ 64 - 1)
 abbrev pub Rose : ℕ → ℕ → Type 0
 Rose before now = raised before ≤ now
 
--- A call that answered this result was told of a fault only where its count of faults rose, and passed over none.
+-- the fault is answered only where the count of faults rose, and with every other answer the count is as before
 pub record HasCause {T E : Type 0} (before now : ℕ) (result : Result T E) (fault : E) : Type 0 where
   pub later : before ≤ now
   pub failed : IsErrOf result fault → Rose before now

@@ -15,7 +15,7 @@ pub trait Source {
     /// The bytes that are left to be read, where the source tells them.
     ghost left: { Self → Option (List ℕ) };
 
-    /// The last read found the end of the input. Only a read can show it, so code that is generic over sources can't claim it by itself.
+    /// The last read found the end of the input. It says nothing where an impl leaves it out. Over any source only a read shows it.
     ghost ended: { Self → Type 0 } = { λ _. Unit {0} };
 
     /// How often a read of it has failed. It never falls.
