@@ -1,0 +1,6 @@
+mod RunWords
+mod OnePut
+mod OnePutOutputs
+mod OnePutPicked
+mod OnePutLegal
+mod OnePutOutcome
