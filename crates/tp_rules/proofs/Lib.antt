@@ -4,3 +4,11 @@ mod OnePutOutputs
 mod OnePutPicked
 mod OnePutLegal
 mod OnePutOutcome
+mod FiveReplicas
+mod TwoPartitions
+mod SameSheet
+mod RefusalsOfProcess
+mod RefusalsOfExecutor
+mod RefusalsOfSession
+mod OnePutIllegal
+mod KeptCommand
