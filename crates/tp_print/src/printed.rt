@@ -18,7 +18,8 @@ fn put_all_replies(
 ) -> Result<u64, NoMemory> {
     let mut unanswered = 0u64;
     for i in 0..script.homes.len() {
-        unanswered += put_replies(alloc, out, script, entries, i + 1)?;
+        let more = put_replies(alloc, out, script, entries, i + 1)?;
+        unanswered = unanswered.saturating_add(more);
     }
     Ok(unanswered)
 }

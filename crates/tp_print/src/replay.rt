@@ -1,3 +1,7 @@
+ghost use Rattle.std.specs.Prelude.{◌≡◌, ◌≤◌};
+ghost use Rattle.tp_rules.specs.Addresses.{is_between, is_name_of, is_site_of};
+ghost use Rattle.tp_print.specs.Replay.{is_named};
+
 use crate::journal::output;
 use std::alloc::Global;
 use tp_base::{ActorName, CommandId, Duplicate, NoMemory, PartitionId, Site};
@@ -14,22 +18,33 @@ pub struct Replay {
     kept: Vec<Parts>,
 }
 
-pub fn is_session(name: ActorName, session: usize) -> bool {
+/// Whether a name is that of a session.
+pub fn is_session(name: ActorName, session: usize) -> bool
+    ensures { result ≡ is_named name session }
+{
     match name {
         ActorName::Session(id) => usize::from(id.0) == session,
         _ => false,
     }
 }
 
-fn is_partition(topology: &Topology, p: PartitionId) -> bool {
-    1 <= p.0 && p.0 <= topology.partitions()
+fn is_partition(topology: &Topology, p: PartitionId) -> bool
+    ensures of_shape { result ≡ is_between p.0 topology.now.partitions }
+    ensures few { topology.now.partitions ≤ 4 }
+{
+    let last = topology.partitions();
+    1 <= p.0 && p.0 <= last
 }
 
-fn is_site(topology: &Topology, site: Site) -> bool {
+fn is_site(topology: &Topology, site: Site) -> bool
+    ensures { result ≡ is_site_of topology.now site }
+{
     is_partition(topology, site.partition) && 1 <= site.rank.0 && site.rank.0 <= topology.replicas()
 }
 
-fn is_in_shape(topology: &Topology, name: ActorName) -> bool {
+fn is_in_shape(topology: &Topology, name: ActorName) -> bool
+    ensures { result ≡ is_name_of topology.now name }
+{
     match name {
         ActorName::Process(site) => is_site(topology, site),
         ActorName::Executor(site) => is_site(topology, site),

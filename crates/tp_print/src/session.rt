@@ -58,11 +58,11 @@ pub fn put_replies(
 ) -> Result<u64, NoMemory> {
     let commands = commands_of(alloc, script, session)?;
     let replay = replay_of(alloc, &script.topology, session, &commands, entries)?;
-    let mut unanswered = 0;
+    let mut unanswered = 0u64;
     for (i, command) in commands.iter().enumerate() {
         match replay.reply(alloc, &script.topology, command, i)? {
             Some(answers) => put_reply(alloc, out, session as u64, i as u64 + 1, &answers)?,
-            None => unanswered += 1,
+            None => unanswered = unanswered.saturating_add(1),
         }
     }
     Ok(unanswered)
