@@ -1,3 +1,6 @@
+ghost use Rattle.std.specs.Prelude.{◌≡◌};
+ghost use Rattle.tp_ops.specs.Parts.{key_of};
+
 use tp_base::{Bytes, Duplicate, NoMemory, Sequence};
 
 /// An operation on one key.
@@ -23,6 +26,24 @@ pub enum Answer {
 
 /// The answers to a list of operations, in their order.
 pub type Answers = Sequence<Answer>;
+
+impl Op {
+    /// The key that it reads or writes.
+    pub fn key(&self) -> &[u8]
+        ensures { result.now ≡ key_of self.now }
+    {
+        match self {
+            Op::Get { key } => key.as_slice(),
+            Op::Put { key, value: _ } => key.as_slice(),
+            Op::Del { key } => key.as_slice(),
+            Op::Cas {
+                key,
+                old: _,
+                new: _,
+            } => key.as_slice(),
+        }
+    }
+}
 
 impl Duplicate for Op {
     fn copy(&self) -> Result<Self, NoMemory> {
