@@ -12,3 +12,5 @@ mod RefusalsOfExecutor
 mod RefusalsOfSession
 mod OnePutIllegal
 mod KeptCommand
+pub mod Weights
+pub mod Tallies
