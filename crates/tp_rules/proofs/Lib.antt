@@ -14,3 +14,4 @@ mod OnePutIllegal
 mod KeptCommand
 pub mod Weights
 pub mod Tallies
+pub mod Parcels
