@@ -15,3 +15,5 @@ mod KeptCommand
 pub mod Weights
 pub mod Tallies
 pub mod Parcels
+pub mod DeliveriesLeft
+pub mod Undelivered

@@ -1,21 +1,18 @@
 -- What one more entry of a journal does to what was sent, and to the deliveries that are left of each output. Used for the
 -- end of runs, and where a delivered message is to be one that was sent.
-use Rattle.std.proofs.Common.{◌≡◌, ◌≢◌, ℕ, zero, suc, ◌+◌, ◌-◌, ◌<◌, ◌≤◌, inl, inr, Bool, true, false, List, [], ◌∷◌, ◌++◌, Option, Some, None, length, map, cond, refl, sym, ap, subst, ◌∙◌, arith}
-use Rattle.std.specs.Prelude.{filter, filter_map, slice_get, ◌==◌, ◌||◌}
-use Rattle.std.specs.List.{list_any}
-use Rattle.std.proofs.lemmas.Bool.{cases_Bool, cases_eq, eq-eqb, ne_eqb, and_left, and_right, or_from, le-ltb, cond-true, cond-false}
+use Rattle.std.proofs.Common.{◌≡◌, ◌≢◌, ℕ, zero, suc, ◌+◌, ◌<◌, ◌≤◌, inl, inr, false, List, [], ◌∷◌, ◌++◌, Some, length, refl, sym, ap, subst, ◌∙◌, arith}
+use Rattle.std.specs.Prelude.{filter, slice_get, ◌==◌}
+use Rattle.std.proofs.lemmas.Bool.{cases_eq, eq-eqb, ne_eqb, and_left, and_right, or_from, le-ltb, cond-true, cond-false}
 use Rattle.std.proofs.lemmas.List.{append-nil}
 use Rattle.std.proofs.lemmas.List.Elements.{filter-append}
 use Rattle.tp_base.specs.Lists.{IsIn}
 use Rattle.tp_base.proofs.Members.{in_left, in_right, in_either}
-use Rattle.tp_rules.specs.Journal.{numbered, output_at, sent, is_delivery_of, is_loss_of}
-use Rattle.tp_rules.specs.Plan.{Fate, Lost, Times, is_counted_to, ordinal_of, fate_of, deliveries, was_lost, left_by, deliveries_left, fate_by}
+use Rattle.tp_rules.specs.Journal.{numbered, output_at, sent}
+use Rattle.tp_rules.specs.Plan.{is_counted_to, ordinal_of, fate_of, fate_by}
 use Rattle.tp_rules.specs.Tables.{nth}
 use Rattle.tp_rules.specs.declared.event.Entry.{Entry}
-use Rattle.tp_rules.specs.declared.event.Event.{Event}
-use Rattle.tp_rules.specs.declared.event.Event.TheVariants.{Deliver, Dropped, Inner as OfItself}
 use Rattle.tp_rules.specs.declared.event.Parcel.{Parcel}
-use Rattle.tp_rules.proofs.Tallies.{count_yes, count_no, filter_none}
+use Rattle.tp_rules.proofs.Tallies.{filter_none}
 use Rattle.tp_script.specs.declared.script.Script.{Script}
 use Rattle.tp_wire.specs.declared.message.Message.{Message}
 
