@@ -17,3 +17,5 @@ pub mod Tallies
 pub mod Parcels
 pub mod DeliveriesLeft
 pub mod Undelivered
+pub mod SendsOfProcess
+pub mod LaterKinds
