@@ -50,7 +50,7 @@ deliveries_fall script older e p h =
     ] in
     let lost : was_lost older p.entry p.place ≡ true → was_lost (e ∷ older) p.entry p.place ≡ true = or_right (is_loss_of p.entry p.place e.event) _ in
     subst (λ (fate : Fate). left_by fate (deliveries (e ∷ older) p.entry p.place) (was_lost (e ∷ older) p.entry p.place) ≤ deliveries_left script older p) (sym fates)
-      (lower_by (fate_of script older p) _ _ _ _ more lost)
+    (lower_by (fate_of script older p) _ _ _ _ more lost)
 
 delivered_by : (fate : Fate) (m n : ℕ) (before after : Bool) → n ≡ suc m → (IsLost fate → ⊥) → 0 < left_by fate m before → suc (left_by fate n after) ≡ left_by fate m before
 delivered_by Lost m n before after e h some = absurd (h tt)
@@ -64,10 +64,10 @@ unfolding deliveries_left
 delivery_falls script older e p h event live some =
     let fates = fate_stays script older e p h in
     let delivers : is_delivery_of p.entry p.place e.event ≡ true =
-      ap (is_delivery_of p.entry p.place) event ∙ and_from (p.entry == p.entry) (p.place == p.place) (eq-eqb p.entry p.entry refl) (eq-eqb p.place p.place refl) in
+    ap (is_delivery_of p.entry p.place) event ∙ and_from (p.entry == p.entry) (p.place == p.place) (eq-eqb p.entry p.entry refl) (eq-eqb p.place p.place refl) in
     let count : deliveries (e ∷ older) p.entry p.place ≡ suc (deliveries older p.entry p.place) = count_yes (λ (x : Entry). is_delivery_of p.entry p.place x.event) e older delivers in
     subst (λ (fate : Fate). suc (left_by fate (deliveries (e ∷ older) p.entry p.place) (was_lost (e ∷ older) p.entry p.place)) ≡ deliveries_left script older p) (sym fates)
-      (delivered_by (fate_of script older p) _ _ _ _ count live some)
+    (delivered_by (fate_of script older p) _ _ _ _ count live some)
 
 lost_by : (fate : Fate) (m n : ℕ) (before after : Bool) → after ≡ true → IsLost fate → 0 < left_by fate m before → suc (left_by fate n after) ≡ left_by fate m before
 lost_by Lost m n true after e h some = absurd (omega arith)
@@ -83,10 +83,10 @@ unfolding deliveries_left
 loss_falls script older e p h event lost some =
     let fates = fate_stays script older e p h in
     let loses : is_loss_of p.entry p.place e.event ≡ true =
-      ap (is_loss_of p.entry p.place) event ∙ and_from (p.entry == p.entry) (p.place == p.place) (eq-eqb p.entry p.entry refl) (eq-eqb p.place p.place refl) in
+    ap (is_loss_of p.entry p.place) event ∙ and_from (p.entry == p.entry) (p.place == p.place) (eq-eqb p.entry p.entry refl) (eq-eqb p.place p.place refl) in
     let gone : was_lost (e ∷ older) p.entry p.place ≡ true = or_left (is_loss_of p.entry p.place e.event) (was_lost older p.entry p.place) loses in
     subst (λ (fate : Fate). suc (left_by fate (deliveries (e ∷ older) p.entry p.place) (was_lost (e ∷ older) p.entry p.place)) ≡ deliveries_left script older p) (sym fates)
-      (lost_by (fate_of script older p) _ _ _ _ gone lost some)
+    (lost_by (fate_of script older p) _ _ _ _ gone lost some)
 
 -- the times of a script's text are 9 at most
 
@@ -147,6 +147,6 @@ deliveries_few script accepted older p =
     let n = ordinal_of older p in
     let few = times_few script accepted from to n in
     cond_both (list_any (is_lost_by from to n) script.plan) Lost _
-      (λ (fate : Fate). left_by fate (deliveries older p.entry p.place) (was_lost older p.entry p.place) ≤ 9)
-      (λ t. lost_few (deliveries older p.entry p.place) (was_lost older p.entry p.place))
-      (λ f. omega arith)
+    (λ (fate : Fate). left_by fate (deliveries older p.entry p.place) (was_lost older p.entry p.place) ≤ 9)
+    (λ t. lost_few (deliveries older p.entry p.place) (was_lost older p.entry p.place))
+    (λ f. omega arith)

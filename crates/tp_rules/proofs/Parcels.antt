@@ -72,12 +72,12 @@ pub output_sent : (older : List Entry) (entry place : ℕ) (m : Message) → out
 output_sent [] entry place m e = absurd cc
 output_sent (x ∷ older) entry place m e = elim (cases_eq entry (suc (length older))) [
   | inl same ↦
-    let here : nth x.outputs place ≡ Some m = sym (cond-true (entry == suc (length older)) _ _ (eq-eqb entry (suc (length older)) same)) ∙ e in
-    in_right (sent older) _ _ (subst (λ (n : ℕ). IsIn (parcel n place m) (numbered (suc (length older)) 1 x.outputs)) (sym same)
+      let here : nth x.outputs place ≡ Some m = sym (cond-true (entry == suc (length older)) _ _ (eq-eqb entry (suc (length older)) same)) ∙ e in
+      in_right (sent older) _ _ (subst (λ (n : ℕ). IsIn (parcel n place m) (numbered (suc (length older)) 1 x.outputs)) (sym same)
       (nth_numbered (suc (length older)) place x.outputs m here))
   | inr apart ↦
-    let before : output_at older entry place ≡ Some m = sym (cond-false (entry == suc (length older)) _ _ (ne_eqb entry (suc (length older)) apart)) ∙ e in
-    in_left (sent older) _ _ (output_sent older entry place m before)
+      let before : output_at older entry place ≡ Some m = sym (cond-false (entry == suc (length older)) _ _ (ne_eqb entry (suc (length older)) apart)) ∙ e in
+      in_left (sent older) _ _ (output_sent older entry place m before)
 ]
 
 -- and what was sent stands at its place
@@ -85,12 +85,12 @@ pub sent_output : (older : List Entry) (p : Parcel) → IsIn p (sent older) → 
 sent_output [] p h = absurd h
 sent_output (x ∷ older) p h = elim (in_either (sent older) (numbered (suc (length older)) 1 x.outputs) p h) [
   | inl old ↦
-    let within = sent_within older p old in
-    let apart : p.entry ≢ suc (length older) = (λ e. omega (arith, within.1)) in
-    cond-false (p.entry == suc (length older)) _ _ (ne_eqb p.entry (suc (length older)) apart) ∙ sent_output older p old
+      let within = sent_within older p old in
+      let apart : p.entry ≢ suc (length older) = (λ e. omega (arith, within.1)) in
+      cond-false (p.entry == suc (length older)) _ _ (ne_eqb p.entry (suc (length older)) apart) ∙ sent_output older p old
   | inr new ↦
-    let parts = numbered_parts (suc (length older)) 1 x.outputs p new in
-    cond-true (p.entry == suc (length older)) _ _ (eq-eqb p.entry (suc (length older)) parts.0) ∙ numbered_nth (suc (length older)) x.outputs p new
+      let parts = numbered_parts (suc (length older)) 1 x.outputs p new in
+      cond-true (p.entry == suc (length older)) _ _ (eq-eqb p.entry (suc (length older)) parts.0) ∙ numbered_nth (suc (length older)) x.outputs p new
 ]
 
 -- entry and place name an output
@@ -111,7 +111,7 @@ ordinal_stays older e p h =
     let within = sent_within older p h in
     let new = numbered (suc (length older)) 1 e.outputs in
     let none : filter (is_counted_to p) new ≡ [] = filter_none (is_counted_to p) new (λ other k. not_counted p other
-      (let parts = numbered_parts (suc (length older)) 1 e.outputs other k in omega (arith, within.1, parts.0))) in
+    (let parts = numbered_parts (suc (length older)) 1 e.outputs other k in omega (arith, within.1, parts.0))) in
     ap length (filter-append (is_counted_to p) (sent older) new ∙ ap (λ (l : List Parcel). filter (is_counted_to p) (sent older) ++ l) none ∙ append-nil _)
 
 pub fate_stays : (script : Script) (older : List Entry) (e : Entry) (p : Parcel) → IsIn p (sent older) →

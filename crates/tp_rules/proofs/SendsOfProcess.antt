@@ -46,7 +46,7 @@ module _ (M : Message → Type 0) (me : Site) where
       Each M (proposals s me c t)
   unfolding proposals
   proposals_send s c t h k = each_map M _ _ (λ rank. cond_both (s.in_quorum c rank) (MPropose c (stamp t)) (MPayload c)
-    (λ (body : Body). M (message (Process me) (Process (site me.partition.0 rank)) body)) (λ t. h _) (λ f. k _))
+      (λ (body : Body). M (message (Process me) (Process (site me.partition.0 rank)) body)) (λ t. h _) (λ f. k _))
 
   pub commits_send : (shape : Shape) (o : Option Command) (t : ℕ) →
       ((c : Command) (to : ActorName) → o ≡ Some c → M (message (Process me) to (MCommit c me.partition (stamp t)))) → Each M (commits shape me o t)
@@ -73,7 +73,7 @@ module _ (M : Message → Type 0) (me : Site) where
   learned_sends shape id q t sheet state h =
       let known = with_stamp q t sheet in
       cond_both (is_some (stamp_of sheet q)) (with_sheet id sheet state, []) (finished me id known known.command (final_stamp shape known known.command) state)
-        (EachSent M) (λ e. tt) (λ e. finished_sends id known known.command (final_stamp shape known known.command) state h)
+      (EachSent M) (λ e. tt) (λ e. finished_sends id known known.command (final_stamp shape known known.command) state h)
 
   pub decided_sends : (shape : Shape) (id : CommandId) (t : ℕ) (sheet : Sheet) (state : ProcessState) →
       ((c : Command) (to : ActorName) (t : ℕ) → sheet.command ≡ Some c → M (message (Process me) to (MCommit c me.partition (stamp t)))) →
@@ -81,7 +81,7 @@ module _ (M : Message → Type 0) (me : Site) where
       EachSent M (decided shape me id t sheet state)
   decided_sends shape id t sheet state h k =
       each_append M (commits shape me sheet.command t) (learned shape me id me.partition.0 t sheet state).1
-        (commits_send shape sheet.command t (λ c to e. h c to t e)) (learned_sends shape id me.partition.0 t sheet state k)
+      (commits_send shape sheet.command t (λ c to e. h c to t e)) (learned_sends shape id me.partition.0 t sheet state k)
 
   pub on_submit_sends : (s : Setting) (c : Command) (state : ProcessState) →
       ((to : ActorName) (t : ℕ) → M (message (Process me) to (MPropose c (stamp t)))) → ((to : ActorName) → M (message (Process me) to (MPayload c))) →
@@ -91,9 +91,9 @@ module _ (M : Message → Type 0) (me : Site) where
       let sheet = state.sheets c.id in
       let t = next_stamp 0 state in
       cond_both ((c.home.0 == me.rank.0) && is_fresh me.partition.0 sheet) (submitted s me c t sheet state) (state, []) (EachSent M)
-        (λ e. each_append M (proposals s me c t) (bumps s.shape me (command_or c sheet) t)
-          (proposals_send s c t (λ to. h to t) k) (bumps_send s.shape (command_or c sheet) t (λ to. l to (command_or c sheet).id t)))
-        (λ e. tt)
+      (λ e. each_append M (proposals s me c t) (bumps s.shape me (command_or c sheet) t)
+      (proposals_send s c t (λ to. h to t) k) (bumps_send s.shape (command_or c sheet) t (λ to. l to (command_or c sheet).id t)))
+      (λ e. tt)
 
   pub on_propose_sends : (s : Setting) (from : ActorName) (c : Command) (floor : ℕ) (state : ProcessState) →
       ((t : ℕ) → M (message (Process me) from (MProposeAck c.id (stamp t)))) →
@@ -103,8 +103,8 @@ module _ (M : Message → Type 0) (me : Site) where
       let sheet = state.sheets c.id in
       let t = next_stamp floor state in
       cond_both (is_fresh me.partition.0 sheet) (proposed s me from c t sheet state) (state, []) (EachSent M)
-        (λ e. (h t, bumps_send s.shape (command_or c sheet) t (λ to. k to (command_or c sheet).id t)))
-        (λ e. tt)
+      (λ e. (h t, bumps_send s.shape (command_or c sheet) t (λ to. k to (command_or c sheet).id t)))
+      (λ e. tt)
 
   pub on_payload_sends : (c : Command) (state : ProcessState) → EachSent M (on_payload c state)
   on_payload_sends c state = tt
@@ -125,7 +125,7 @@ module _ (M : Message → Type 0) (me : Site) where
   gathered_sends s id sheet state h k l =
       let choice = fast_choice s.shape (present sheet.acknowledged) in
       cond_both (is_full s.shape sheet) (chosen s me id choice sheet state) (with_sheet id sheet state, []) (EachSent M)
-        (λ e. chosen_sends s id choice sheet state h k l) (λ e. tt)
+      (λ e. chosen_sends s id choice sheet state h k l) (λ e. tt)
 
   pub on_propose_ack_sends : (s : Setting) (from : ActorName) (id : CommandId) (t : ℕ) (state : ProcessState) →
       ((c : Command) (to : ActorName) (t : ℕ) → (state.sheets id).command ≡ Some c → M (message (Process me) to (MCommit c me.partition (stamp t)))) →
@@ -135,7 +135,7 @@ module _ (M : Message → Type 0) (me : Site) where
   on_propose_ack_sends s from id t state h k l =
       let rank = rank_of from in
       cond_both (can_acknowledge s me.partition.0 me.rank.0 rank (state.sheets id)) (gathered s me id (acknowledged rank t (state.sheets id)) state) (state, []) (EachSent M)
-        (λ e. gathered_sends s id (acknowledged rank t (state.sheets id)) state h k l) (λ e. tt)
+      (λ e. gathered_sends s id (acknowledged rank t (state.sheets id)) state h k l) (λ e. tt)
 
   pub on_commit_sends : (s : Setting) (c : Command) (q t : ℕ) (state : ProcessState) →
       ((d : Command) (t : ℕ) → (kept c (state.sheets c.id)).command ≡ Some d → M (message (Process me) (Executor me) (MCommitted d (stamp t)))) →
@@ -143,7 +143,7 @@ module _ (M : Message → Type 0) (me : Site) where
   on_commit_sends s c q t state h =
       let sheet = kept c (state.sheets c.id) in
       cond_both (is_accessed s.shape.partitions c q) (learned s.shape me c.id q t sheet state) (state, []) (EachSent M)
-        (λ e. learned_sends s.shape c.id q t sheet state h) (λ e. tt)
+      (λ e. learned_sends s.shape c.id q t sheet state h) (λ e. tt)
 
   pub on_announce_sends : (shape : Shape) (state : ProcessState) →
       ((to : ActorName) (lo hi : ℕ) (pairs : List Pair) → M (message (Process me) to (MPromises lo hi pairs))) → EachSent M (on_announce shape me state)
@@ -151,7 +151,7 @@ module _ (M : Message → Type 0) (me : Site) where
   on_announce_sends shape state h =
       let next : ProcessState = record { clock = state.clock; told = state.clock; attached = state.attached; sheets = state.sheets } in
       cond_both (nat_lt state.told state.clock) (next, announced shape me state) (state, []) (EachSent M)
-        (λ e. each_to M (Process me) _ (MPromises state.told state.clock (untold state)) (λ to. h to state.told state.clock (untold state))) (λ e. tt)
+      (λ e. each_to M (Process me) _ (MPromises state.told state.clock (untold state)) (λ to. h to state.told state.clock (untold state))) (λ e. tt)
 
   -- a step without room sends nothing
   pub with_room_sends : (state : ProcessState) (moved : Moved) → EachSent M moved → EachSent M (with_room state moved)

@@ -50,12 +50,12 @@ fewer p q [] h = omega arith
 fewer p q (x ∷ xs) h =
     let rest = fewer p q xs (λ y k. h y (inr k)) in
     elim (cases_Bool (q x)) [
-  | inl e ↦ omega (arith, count_yes q x xs e, count_yes p x xs (h x (inl refl) e))
-  | inr e ↦ elim (cases_Bool (p x)) [
-    | inl f ↦ omega (arith, count_no q x xs e, count_yes p x xs f)
-    | inr f ↦ omega (arith, count_no q x xs e, count_no p x xs f)
-  ]
-]
+      | inl e ↦ omega (arith, count_yes q x xs e, count_yes p x xs (h x (inl refl) e))
+      | inr e ↦ elim (cases_Bool (p x)) [
+        | inl f ↦ omega (arith, count_no q x xs e, count_yes p x xs f)
+        | inr f ↦ omega (arith, count_no q x xs e, count_no p x xs f)
+      ]
+    ]
 
 -- and one item that p passes it doesn't
 pub one_fewer : {X : Type 0} (p q : X → Bool) (xs : List X) (y : X) → ((x : X) → IsIn x xs → q x ≡ true → p x ≡ true) →
@@ -67,12 +67,12 @@ one_fewer p q (x ∷ xs) y h (inl same) does doesnt =
 one_fewer p q (x ∷ xs) y h (inr later) does doesnt =
     let rest = one_fewer p q xs y (λ z k. h z (inr k)) later does doesnt in
     elim (cases_Bool (q x)) [
-  | inl e ↦ omega (arith, count_yes q x xs e, count_yes p x xs (h x (inl refl) e))
-  | inr e ↦ elim (cases_Bool (p x)) [
-    | inl f ↦ omega (arith, count_no q x xs e, count_yes p x xs f)
-    | inr f ↦ omega (arith, count_no q x xs e, count_no p x xs f)
-  ]
-]
+      | inl e ↦ omega (arith, count_yes q x xs e, count_yes p x xs (h x (inl refl) e))
+      | inr e ↦ elim (cases_Bool (p x)) [
+        | inl f ↦ omega (arith, count_no q x xs e, count_yes p x xs f)
+        | inr f ↦ omega (arith, count_no q x xs e, count_no p x xs f)
+      ]
+    ]
 
 -- where no item passes
 pub filter_none : {X : Type 0} (p : X → Bool) (xs : List X) → ((x : X) → IsIn x xs → p x ≡ false) → filter p xs ≡ []

@@ -50,9 +50,9 @@ none_new : (script : Script) (older : List Entry) (e : Entry) (k : ℕ) → Each
 none_new script older e k above =
     let f = deliveries_left script (e ∷ older) in
     let none : filter (is_of k) (new_of older e) ≡ [] = filter_none (is_of k) (new_of older e) (λ p h.
-      let parts = numbered_parts (suc (length older)) 1 e.outputs p h in
-      let high : k < place_of p.message.body = each_in (λ (m : Message). k < place_of m.body) e.outputs p.message above parts.2 in
-      ne_eqb (place_of p.message.body) k (λ same. omega arith)) in
+    let parts = numbered_parts (suc (length older)) 1 e.outputs p h in
+    let high : k < place_of p.message.body = each_in (λ (m : Message). k < place_of m.body) e.outputs p.message above parts.2 in
+    ne_eqb (place_of p.message.body) k (λ same. omega arith)) in
     ap (λ (l : List Parcel). total (map f l)) none
 
 few_new : (script : Script) → IsAccepted script → (older : List Entry) (e : Entry) (k : ℕ) → length e.outputs ≤ 63 → news script older e k ≤ 599
@@ -75,8 +75,8 @@ pub undelivered_falls : (script : Script) (older : List Entry) (e : Entry) (p : 
 undelivered_falls script older e p above h less =
     let k = place_of p.message.body in
     let old : olds script older e k < undelivered script older k = less_total (deliveries_left script older) (deliveries_left script (e ∷ older)) (filter (is_of k) (sent older)) p
-      (λ q there. deliveries_fall script older e q (filter_in (is_of k) (sent older) q there).0)
-      (in_filter (is_of k) (sent older) p h (eq-eqb k k refl)) less in
+    (λ q there. deliveries_fall script older e q (filter_in (is_of k) (sent older) q there).0)
+    (in_filter (is_of k) (sent older) p h (eq-eqb k k refl)) less in
     omega (arith, apart script older e k, none_new script older e k above)
 
 -- each kind rises by less than 600
