@@ -19,3 +19,4 @@ pub mod DeliveriesLeft
 pub mod Undelivered
 pub mod SendsOfProcess
 pub mod LaterKinds
+pub mod HowMany
