@@ -20,3 +20,5 @@ pub mod Undelivered
 pub mod SendsOfProcess
 pub mod LaterKinds
 pub mod HowMany
+pub mod CarriedCommands
+pub mod Provenance
