@@ -22,3 +22,6 @@ pub mod LaterKinds
 pub mod HowMany
 pub mod CarriedCommands
 pub mod Provenance
+pub mod ActsMore
+pub mod OwnSteps
+pub mod Unsubmitted
