@@ -25,3 +25,5 @@ pub mod Provenance
 pub mod ActsMore
 pub mod OwnSteps
 pub mod Unsubmitted
+pub mod SitesCounted
+pub mod Unentered
