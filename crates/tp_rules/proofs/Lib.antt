@@ -27,3 +27,4 @@ pub mod OwnSteps
 pub mod Unsubmitted
 pub mod SitesCounted
 pub mod Unentered
+pub mod Unannounced
