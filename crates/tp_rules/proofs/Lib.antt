@@ -28,3 +28,4 @@ pub mod Unsubmitted
 pub mod SitesCounted
 pub mod Unentered
 pub mod Unannounced
+pub mod Unexecuted
