@@ -29,3 +29,5 @@ pub mod SitesCounted
 pub mod Unentered
 pub mod Unannounced
 pub mod Unexecuted
+pub mod Histories
+pub mod LeftFalls
