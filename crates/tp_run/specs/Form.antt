@@ -32,17 +32,23 @@ tail = 10 ∷ line_of (codes "end")
 
 -- the text of one put
 abbrev pub form_text : List ℕ → List ℕ → List ℕ
-form_text key value = head ++ (hex_text key ++ 32 ∷ value_text value) ++ tail
+form_text key value = head ++ ((hex_text key ++ 32 ∷ value_text value) ++ tail)
 
 -- the script that the text says
 abbrev pub one_put : List ℕ → List ℕ → Script
 one_put key value =
     let command : Command = record {
-        id = record { session = record { 0 = 1 }; number = 1 }; home = record { 0 = 1 };
-        ops = Put key value ∷ [] } in
+      id = record { session = record { 0 = 1 }; number = 1 };
+      home = record { 0 = 1 };
+      ops = Put key value ∷ [];
+    } in
     record {
-        topology = record { partitions = 1; replicas = 3; failures = 1 };
-        homes = record { 0 = 1 } ∷ []; commands = command ∷ []; plan = []; picks = [] }
+      topology = record { partitions = 1; replicas = 3; failures = 1 };
+      homes = record { 0 = 1 } ∷ [];
+      commands = command ∷ [];
+      plan = [];
+      picks = [];
+    }
 
 -- a text that says a script of this form, with a key of 1 to 32 bytes and a value of 0 to 64
 abbrev pub IsFormOf : List ℕ → Script → Type 0
