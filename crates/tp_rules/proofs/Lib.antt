@@ -12,3 +12,5 @@ mod RefusalsOfExecutor
 mod RefusalsOfSession
 mod OnePutIllegal
 mod KeptCommand
+mod Operations
+mod Quorums

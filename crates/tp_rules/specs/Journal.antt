@@ -96,6 +96,6 @@ abbrev pub is_loss_of : ℕ → ℕ → Event → Bool
 is_loss_of entry place (Dropped e p) = (e == entry) && (p == place)
 is_loss_of entry place _ = false
 
--- all sites, ascending
+-- the sites of a partition, ascending
 abbrev pub ranks_of : Script → ℕ → List Site
 ranks_of script p = map (site p) (up_to script.topology.replicas)
