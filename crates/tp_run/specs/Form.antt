@@ -3,7 +3,7 @@ use Rattle.std.specs.Prelude.{ℕ, ◌+◌, ◌*◌, ◌/◌, ◌%◌, ◌≡◌
 use Rattle.tp_ops.specs.declared.command.Command.{Command}
 use Rattle.tp_ops.specs.declared.operation.Op.TheVariants.{Put}
 use Rattle.tp_script.specs.declared.script.Script.{Script}
-use Rattle.tp_wire.specs.Ranges.{IsKey, IsValue}
+use Rattle.tp_ops.specs.Limits.{IsKey, IsValue}
 
 -- the digit of a number below sixteen: 0 to 9, a to f
 abbrev pub hex_digit : ℕ → ℕ

@@ -2,7 +2,7 @@ ghost use Rattle.std.specs.Prelude.{◌≡◌, ◌≢◌, ◌<◌, ℕ, List, []
 ghost use Rattle.tp_base.specs.Lists.{Each};
 ghost use Rattle.tp_run.specs.Form.{hex_digit, hex_text, value_text, one_put, IsFormOf};
 ghost use Rattle.tp_script.specs.declared.script.Script.{Script as ScriptValue};
-ghost use Rattle.tp_wire.specs.Ranges.{IsKey, IsValue};
+ghost use Rattle.tp_ops.specs.Limits.{IsKey, IsValue};
 
 use std::alloc::Global;
 use thiserror::Error;
