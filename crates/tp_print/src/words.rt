@@ -1,0 +1,66 @@
+ghost use Rattle.std.specs.Prelude.{◌≡◌, ◌++◌, OnOk};
+ghost use Rattle.std.specs.Fmt.{decimal};
+ghost use Rattle.tp_print.specs.Report.{answer_word, id_of, id_word, site_word, spaced, stamped_word};
+
+use itoa::Buffer;
+use std::alloc::Global;
+use tp_base::{CommandId, NoMemory, Put, Site};
+use tp_ops::Answer;
+
+fn put_number(out: &mut Put, n: u64) -> Result<(), NoMemory>
+    ensures { OnOk result (out.new ≡ out.old ++ decimal n) }
+{
+    let mut buffer = Buffer::new();
+    out.bytes(buffer.format(n).as_bytes())
+}
+
+/// A command's identifier, by its session and number.
+#[tactic(auto, unfolding(crate::specs::Report::id_word))]
+pub fn put_id(out: &mut Put, session: u64, number: u64) -> Result<(), NoMemory>
+    ensures { OnOk result (out.new ≡ out.old ++ spaced (id_word (id_of session number))) }
+{
+    out.bytes(b" ")?;
+    put_number(out, session)?;
+    out.bytes(b".")?;
+    put_number(out, number)
+}
+
+#[tactic(auto, unfolding(crate::specs::Report::site_word))]
+pub fn put_site(out: &mut Put, site: Site) -> Result<(), NoMemory>
+    ensures { OnOk result (out.new ≡ out.old ++ spaced (site_word site)) }
+{
+    out.bytes(b" ")?;
+    put_number(out, u64::from(site.partition.0))?;
+    out.bytes(b".")?;
+    put_number(out, u64::from(site.rank.0))
+}
+
+pub fn put_count(out: &mut Put, n: u64) -> Result<(), NoMemory>
+    ensures { OnOk result (out.new ≡ out.old ++ spaced (decimal n)) }
+{
+    out.bytes(b" ")?;
+    put_number(out, n)
+}
+
+/// An executed command with its stamp.
+pub fn put_stamped(out: &mut Put, id: CommandId, stamp: u64) -> Result<(), NoMemory>
+    ensures { OnOk result (out.new ≡ out.old ++ spaced (stamped_word id stamp)) }
+{
+    put_id(out, u64::from(id.session.0), u64::from(id.number))?;
+    out.bytes(b"@")?;
+    put_number(out, stamp)
+}
+
+pub fn put_answer(alloc: Global, out: &mut Put, answer: &Answer) -> Result<(), NoMemory>
+    ensures { OnOk result (out.new ≡ out.old ++ spaced (answer_word answer.now)) }
+{
+    match answer {
+        Answer::Missing => out.bytes(b" none"),
+        Answer::Value(value) => {
+            out.bytes(b" some:")?;
+            out.bytes(hex::encode(alloc, value.as_slice())?.as_bytes())
+        }
+        Answer::Yes => out.bytes(b" yes"),
+        Answer::No => out.bytes(b" no"),
+    }
+}

@@ -1,0 +1,16 @@
+mod RunWords
+mod OnePut
+mod OnePutOutputs
+mod OnePutPicked
+mod OnePutLegal
+mod OnePutOutcome
+mod FiveReplicas
+mod TwoPartitions
+mod SameSheet
+mod RefusalsOfProcess
+mod RefusalsOfExecutor
+mod RefusalsOfSession
+mod OnePutIllegal
+mod KeptCommand
+mod Operations
+mod Quorums
