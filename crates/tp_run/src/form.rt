@@ -34,14 +34,8 @@ pub fn read_form(alloc: Global, text: &[u8]) -> Result<Script, FormError>
     let Some((key, value)) = words_between(text, HEAD, TAIL) else {
         return Err(FormError::Form);
     };
-    let key = match read_key(alloc, key) {
-        Ok(key) => key,
-        Err(error) => return Err(error),
-    };
-    let value = match read_value(alloc, value) {
-        Ok(value) => value,
-        Err(error) => return Err(error),
-    };
+    let key = read_key(alloc, key)?;
+    let value = read_value(alloc, value)?;
     match one_put(alloc, key, value) {
         Ok(script) => Ok(script),
         Err(NoMemory) => Err(FormError::NoMemory),
@@ -113,10 +107,7 @@ fn read_key(alloc: Global, word: &[u8]) -> Result<Bytes, FormError>
     ensures read { IfOk result (λ key. IsKey key × (hex_text key ≡ word.now)) }
     ensures refused { IfErr result (λ e. e ≡ FormError.Form → (key : List ℕ) → IsKey key → hex_text key ≡ word.now → ⊥) }
 {
-    let key = match read_hex(alloc, word) {
-        Ok(key) => key,
-        Err(error) => return Err(error),
-    };
+    let key = read_hex(alloc, word)?;
     match key.len() {
         1..=32 => Ok(key),
         _ => Err(FormError::Form),
@@ -131,10 +122,7 @@ fn read_value(alloc: Global, word: &[u8]) -> Result<Bytes, FormError>
     if word == b"-".as_slice() {
         return Ok(Bytes::new(alloc));
     }
-    let value = match read_hex(alloc, word) {
-        Ok(value) => value,
-        Err(error) => return Err(error),
-    };
+    let value = read_hex(alloc, word)?;
     match value.len() {
         1..=64 => Ok(value),
         _ => Err(FormError::Form),
@@ -149,10 +137,7 @@ fn read_hex(alloc: Global, word: &[u8]) -> Result<Bytes, FormError>
     let mut bytes = Bytes::new(alloc);
     let mut rest = word;
     while let [high, low, behind @ ..] = rest {
-        let byte = match read_byte(*high, *low) {
-            Ok(byte) => byte,
-            Err(error) => return Err(error),
-        };
+        let byte = read_byte(*high, *low)?;
         match bytes.add(byte) {
             Ok(()) => rest = behind,
             Err(NoMemory) => return Err(FormError::NoMemory),

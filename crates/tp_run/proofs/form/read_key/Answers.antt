@@ -5,5 +5,5 @@ use Rattle.tp_run.proofs.form.read_key.Goals.{in_default-via-then-len-lt1, in_de
 
 pub returns-in_default-clause-refused : goal.returns-in_default-clause-refused
 returns-in_default-clause-refused c = λ _ key is same.
-    let n = same_length c.in-Ok.key key c.args.word.now c.in-Ok.ensures.read.1 same in
+    let n = same_length c.in_ok-key.key key c.args.word.now c.in_ok-key.ensures.read.1 same in
     elim c.in_default.branch [ in_default-via-then-len-lt1 w ↦ omega arith | in_default-via-else-len-lt1+else-this-lt33 w ↦ omega arith ]

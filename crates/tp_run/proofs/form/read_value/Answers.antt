@@ -5,5 +5,5 @@ use Rattle.tp_run.proofs.form.read_value.Goals.{in_default-via-then-len-lt1, in_
 
 pub returns-in_default-clause-refused : goal.returns-in_default-clause-refused
 returns-in_default-clause-refused c = λ _ value is same.
-    let n = value_length c.in-Ok.value value c.args.word.now c.in-Ok.ensures.read.1 same in
+    let n = value_length c.in_ok-value.value value c.args.word.now c.in_ok-value.ensures.read.1 same in
     elim c.in_default.branch [ in_default-via-then-len-lt1 w ↦ omega arith | in_default-via-else-len-lt1+else-this-lt65 w ↦ omega arith ]
