@@ -28,7 +28,7 @@ impl Process {
         id: CommandId,
         stamp: Stamp,
     ) -> Result<Outputs, NoMemory> {
-        match acknowledge(&mut self.sheets, id, rank, stamp) {
+        match acknowledge(&mut self.sheets, &self.place, id, rank, stamp) {
             Some(FastChoice::Fast(top)) => self.decide(id, top),
             Some(FastChoice::Slow(top)) => self.put_to_vote(id, top),
             None => Ok(self.nothing()),
@@ -49,7 +49,7 @@ impl Process {
         id: CommandId,
         stamp: Stamp,
     ) -> Result<(), NoMemory> {
-        match command_at(&self.sheets, id) {
+        match command_at(&self.sheets, &self.place, id) {
             Some(command) => {
                 let names = other_processes(self.alloc, &self.place, command)?;
                 let body = Body::MCommit {
@@ -66,7 +66,7 @@ impl Process {
     /// Puts a stamp to the vote of all ranks, at the own rank as ballot.
     fn put_to_vote(&self, id: CommandId, stamp: Stamp) -> Result<Outputs, NoMemory> {
         let mut outputs = Sequence::new(self.alloc);
-        if let Some(command) = command_at(&self.sheets, id) {
+        if let Some(command) = command_at(&self.sheets, &self.place, id) {
             let place = &self.place;
             let names = processes_of(self.alloc, &place.topology, place.site.partition)?;
             let body = Body::MConsensus {

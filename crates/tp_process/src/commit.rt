@@ -38,7 +38,7 @@ impl Process {
         requires some { 1 ≤ partition.0 }
         requires few { partition.0 ≤ 4 }
     {
-        match learn(&mut self.sheets, id, partition, stamp) {
+        match learn(&mut self.sheets, &self.place, id, partition, stamp)? {
             Some(last) => {
                 self.bump(last);
                 self.tell_executor(outputs, id, last)
@@ -53,7 +53,7 @@ impl Process {
         id: CommandId,
         stamp: Stamp,
     ) -> Result<(), NoMemory> {
-        match command_at(&self.sheets, id) {
+        match command_at(&self.sheets, &self.place, id) {
             Some(command) => outputs.add(Message {
                 from: self.place.name(),
                 to: ActorName::Executor(self.place.site),

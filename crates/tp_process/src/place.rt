@@ -1,3 +1,7 @@
+ghost use Rattle.std.specs.Prelude.{◌≡◌, ◌&&◌};
+ghost use Rattle.tp_base.specs.Names.{same_name};
+ghost use Rattle.tp_process.specs.Places.{IsPlace};
+ghost use Rattle.tp_rules.specs.Addresses.{is_between, is_site_of, is_name_of, is_body_at, is_command_at};
 ghost use Rattle.tp_sheet.specs.SiteSheet.{IsSiteOf};
 
 use tp_base::{ActorName, PartitionId, Rank, Site};
@@ -11,29 +15,39 @@ use tp_wire::{Body, Message};
 pub(crate) struct Place {
     pub(crate) topology: Topology,
     pub(crate) site: Site,
-    ghost in_shape: { IsSiteOf topology site },
+    ghost in_shape: { IsPlace topology site },
 }
 
 impl Place {
     pub(crate) fn new(topology: &Topology, site: Site) -> Place
         requires { IsSiteOf topology.now site }
+        ensures topology { result.topology ≡ topology.now }
+        ensures site { result.site ≡ site }
     {
+        let (partitions, replicas) = (topology.partitions(), topology.replicas());
+        prove!(partitions <= 4 && replicas <= 7);
         Place {
             topology: *topology,
             site,
         }
     }
 
-    pub(crate) fn name(&self) -> ActorName {
+    pub(crate) fn name(&self) -> ActorName
+        ensures { result ≡ ActorName.Process self.now.site }
+    {
         ActorName::Process(self.site)
     }
 
     /// Whether a message is to the process of this place, and names nothing outside the shape.
-    pub(crate) fn takes(&self, message: &Message) -> bool {
+    pub(crate) fn takes(&self, message: &Message) -> bool
+        ensures { result ≡ (same_name message.now.to (ActorName.Process self.now.site) && is_name_of self.now.topology message.now.from && is_body_at self.now.topology self.now.site.partition.0 message.now.body) }
+    {
         message.to == self.name() && self.has_name(message.from) && self.takes_body(&message.body)
     }
 
-    fn has_name(&self, name: ActorName) -> bool {
+    fn has_name(&self, name: ActorName) -> bool
+        ensures { result ≡ is_name_of self.now.topology name }
+    {
         match name {
             ActorName::Process(site) => self.has_site(site),
             ActorName::Executor(site) => self.has_site(site),
@@ -41,19 +55,27 @@ impl Place {
         }
     }
 
-    fn has_site(&self, site: Site) -> bool {
+    fn has_site(&self, site: Site) -> bool
+        ensures { result ≡ is_site_of self.now.topology site }
+    {
         self.has_partition(site.partition) && self.has_rank(site.rank)
     }
 
-    fn has_partition(&self, partition: PartitionId) -> bool {
+    fn has_partition(&self, partition: PartitionId) -> bool
+        ensures { result ≡ is_between partition.0 self.now.topology.partitions }
+    {
         1 <= partition.0 && partition.0 <= self.topology.partitions()
     }
 
-    fn has_rank(&self, rank: Rank) -> bool {
+    fn has_rank(&self, rank: Rank) -> bool
+        ensures { result ≡ is_between rank.0 self.now.topology.replicas }
+    {
         1 <= rank.0 && rank.0 <= self.topology.replicas()
     }
 
-    fn takes_body(&self, body: &Body) -> bool {
+    fn takes_body(&self, body: &Body) -> bool
+        ensures { result ≡ is_body_at self.now.topology self.now.site.partition.0 body.now }
+    {
         match body {
             Body::MSubmit { command } => self.takes_command(command),
             Body::MPropose { command, floor: _ } => self.takes_command(command),
@@ -95,7 +117,9 @@ impl Place {
     }
 
     /// Whether a command has its home in the shape, and is on this partition.
-    fn takes_command(&self, command: &Command) -> bool {
+    fn takes_command(&self, command: &Command) -> bool
+        ensures { result ≡ is_command_at self.now.topology self.now.site.partition.0 command.now }
+    {
         self.has_rank(command.home)
             && accesses(command, self.topology.partitions(), self.site.partition)
     }

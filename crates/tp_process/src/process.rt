@@ -1,7 +1,7 @@
 ghost use Rattle.tp_sheet.specs.SiteSheet.{IsSiteOf};
 
 use crate::place::Place;
-use crate::sheets::Sheets;
+use crate::sheets::{Sheets, final_stamp};
 use indexmap::IndexMap;
 use std::alloc::Global;
 use tp_base::{ActorName, CommandId, NoMemory, Pair, Pairs, Sequence, Site, Stamp};
@@ -47,10 +47,7 @@ impl Process {
 
     /// The command's final stamp, where the stamps of all its partitions are known.
     pub fn stamp(&self, id: CommandId) -> Option<Stamp> {
-        match self.sheets.get(&id) {
-            Some(sheet) => sheet.final_stamp(),
-            None => None,
-        }
+        final_stamp(&self.sheets, &self.place, id)
     }
 
     /// What a step sends that changes nothing.

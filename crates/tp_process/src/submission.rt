@@ -11,7 +11,7 @@ impl Process {
     /// A command is submitted here: the home proposes, and asks its fast quorum for proposals.
     pub(crate) fn on_submit(&mut self, command: &Command) -> Result<Outputs, NoMemory> {
         let at_home = command.home == self.place.site.rank;
-        if !(at_home && is_fresh(&self.sheets, command.id) && self.has_room()) {
+        if !(at_home && is_fresh(&self.sheets, &self.place, command.id) && self.has_room()) {
             return Ok(self.nothing());
         }
         let stamp = self.next_stamp(command.id, Stamp(0))?;
@@ -29,7 +29,7 @@ impl Process {
         command: &Command,
         floor: Stamp,
     ) -> Result<Outputs, NoMemory> {
-        if !(is_fresh(&self.sheets, command.id) && self.has_room()) {
+        if !(is_fresh(&self.sheets, &self.place, command.id) && self.has_room()) {
             return Ok(self.nothing());
         }
         let stamp = self.next_stamp(command.id, floor)?;
@@ -60,7 +60,7 @@ impl Process {
         id: CommandId,
         stamp: Stamp,
     ) -> Result<(), NoMemory> {
-        match command_at(&self.sheets, id) {
+        match command_at(&self.sheets, &self.place, id) {
             Some(command) => {
                 let names = counterparts(self.alloc, &self.place, command)?;
                 let body = Body::MBump {

@@ -1,10 +1,11 @@
 -- A sheet with the site that keeps it, and what a call makes of it.
-use Rattle.std.specs.Prelude.{ℕ, ◌≤◌, Bool, cond, Option, Some, None, is_some}
+use Rattle.std.specs.Prelude.{ℕ, ◌≤◌, ◌&&◌, Bool, cond, Option, Some, None, is_some}
 use Rattle.std.specs.Option.{option_map}
 use Rattle.tp_base.specs.declared.names.Site.{Site}
 use Rattle.tp_quorum.specs.Choice.{present, fast_choice}
 use Rattle.tp_quorum.specs.declared.choice.FastChoice.{FastChoice}
 use Rattle.tp_quorum.specs.declared.choice.FastChoice.TheVariants.{Fast, Slow}
+use Rattle.tp_rules.specs.Addresses.{is_between}
 use Rattle.tp_rules.specs.Sheet.{Sheet, blank, can_acknowledge, acknowledged, acknowledged_own, is_full, putting, ring_setting, stamp_of, with_stamp, final_stamp}
 use Rattle.tp_topology.specs.Shape.{Shape}
 
@@ -32,10 +33,11 @@ with_sheet sheet kept = record { shape = kept.shape; site = kept.site; sheet = s
 abbrev pub proposal_of : Sheet → Option ℕ
 proposal_of sheet = option_map (λ p. p.stamp) sheet.proposal
 
--- whether a rank's acknowledgement counts here
+-- whether the acknowledgement of a rank of the shape counts here
 abbrev pub takes_acknowledgement : ℕ → SiteSheet → Bool
 takes_acknowledgement rank kept =
-    can_acknowledge (ring_setting kept.shape) kept.site.partition.0 kept.site.rank.0 rank kept.sheet
+    is_between rank kept.shape.replicas
+    && can_acknowledge (ring_setting kept.shape) kept.site.partition.0 kept.site.rank.0 rank kept.sheet
 
 -- the own proposal acknowledged, where it counts
 abbrev pub with_own : ℕ → SiteSheet → SiteSheet
@@ -58,13 +60,15 @@ choice_by rank t kept =
 
 -- with a rank's acknowledgement, where it counts
 abbrev pub with_acknowledgement : ℕ → ℕ → SiteSheet → SiteSheet
-with_acknowledgement rank t kept = cond (takes_acknowledgement rank kept)
-    (with_sheet (put_by kept.shape kept.site.rank.0 (choice_by rank t kept) (acknowledged rank t kept.sheet)) kept)
+with_acknowledgement rank t kept = with_sheet
+    (cond (takes_acknowledgement rank kept)
+    (put_by kept.shape kept.site.rank.0 (choice_by rank t kept) (acknowledged rank t kept.sheet))
+    kept.sheet)
     kept
 
 -- with a partition's stamp, where it was not known
 abbrev pub with_known : ℕ → ℕ → SiteSheet → SiteSheet
-with_known q t kept = cond (is_some (stamp_of kept.sheet q)) kept (with_sheet (with_stamp q t kept.sheet) kept)
+with_known q t kept = with_sheet (cond (is_some (stamp_of kept.sheet q)) kept.sheet (with_stamp q t kept.sheet)) kept
 
 -- the final stamp, where all stamps are known
 abbrev pub final_of : SiteSheet → Option ℕ

@@ -1,9 +1,9 @@
 ghost use Rattle.std.specs.Prelude.{◌≡◌, ◌≤◌, is_some, length, map};
 ghost use Rattle.std.specs.Option.{option_copied, option_map};
-ghost use Rattle.tp_rules.specs.Sheet.{kept, with_proposal, is_fresh, acknowledged, with_stamp, is_member, is_made_by_proposal, putting, ring_setting, stamp_of, greatest_known as greatest_of_known};
-ghost use Rattle.tp_rules.specs.Addresses.{accessed};
+ghost use Rattle.tp_rules.specs.Sheet.{kept, with_proposal, is_fresh, can_acknowledge, acknowledged, with_stamp, is_member, is_made_by_proposal, putting, ring_setting, stamp_of, greatest_known as greatest_of_known};
+ghost use Rattle.tp_rules.specs.Addresses.{accessed, is_between};
 ghost use Rattle.tp_rules.specs.Tables.{kept_at as place_of};
-ghost use Rattle.tp_sheet.specs.SiteSheet.{IsSiteOf, blank_at, with_sheet, proposal_of, takes_acknowledgement, with_own, choice_where_full, choice_by, with_acknowledgement, with_known, final_of, final_by};
+ghost use Rattle.tp_sheet.specs.SiteSheet.{IsSiteOf, blank_at, with_sheet, proposal_of, with_own, choice_where_full, choice_by, with_acknowledgement, with_known, final_of, final_by};
 
 use crate::access::accesses;
 use crate::gathered::{count, fast_choice};
@@ -149,12 +149,10 @@ impl Sheet {
     /// Takes a rank's proposal, and gives the choice where the whole fast quorum has acknowledged
     /// with it. What is chosen slowly is put to the vote at the own rank.
     pub fn acknowledge(&mut self, rank: Rank, stamp: Stamp) -> Option<FastChoice>
-        requires some { 1 ≤ rank.0 }
-        requires few { rank.0 ≤ self.old.shape.replicas }
         ensures choice { result ≡ choice_by rank.0 stamp.0 self.old }
         ensures taken { self.new ≡ with_acknowledgement rank.0 stamp.0 self.old }
     {
-        if !self.can_acknowledge(rank) {
+        if !(self.has_rank(rank) && self.can_acknowledge(rank)) {
             return None;
         }
         self.add_acknowledgement(rank, stamp);
@@ -187,6 +185,12 @@ impl Sheet {
         self.site.rank
     }
 
+    fn has_rank(&self, rank: Rank) -> bool
+        ensures { result ≡ is_between rank.0 self.now.shape.replicas }
+    {
+        1 <= rank.0 && rank.0 <= self.topology.replicas()
+    }
+
     fn knows(&self, partition: PartitionId) -> bool
         ensures { result ≡ is_some (stamp_of self.now.sheet partition.0) }
     {
@@ -209,7 +213,7 @@ impl Sheet {
     fn can_acknowledge(&self, rank: Rank) -> bool
         requires some { 1 ≤ rank.0 }
         requires few { rank.0 ≤ self.now.shape.replicas }
-        ensures { result ≡ takes_acknowledgement rank.0 self.now }
+        ensures { result ≡ can_acknowledge (ring_setting self.now.shape) self.now.site.partition.0 self.now.site.rank.0 rank.0 self.now.sheet }
     {
         self.is_member(rank)
             && self.has_proposed()
