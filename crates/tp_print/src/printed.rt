@@ -15,8 +15,8 @@ fn put_all_replies(
     out: &mut Put,
     script: &Script,
     entries: &[Entry],
-) -> Result<u64, NoMemory> {
-    let mut unanswered = 0u64;
+) -> Result<usize, NoMemory> {
+    let mut unanswered = 0usize;
     for i in 0..script.homes.len() {
         let more = put_replies(alloc, out, script, entries, i + 1)?;
         unanswered = unanswered.saturating_add(more);
@@ -33,7 +33,7 @@ pub fn report(alloc: Global, script: &Script, entries: &Entries) -> Result<Bytes
     put_orders(alloc, &mut out, &script.topology, entries)?;
     put_line(alloc, &mut out, entries)?;
     out.bytes(b"open")?;
-    put_count(&mut out, unanswered)?;
+    put_count(&mut out, unanswered as u64)?;
     out.bytes(b"\nend\n")?;
     Ok(out.finish())
 }
