@@ -12,11 +12,15 @@ use Rattle.tp_ops.specs.Parts.{answers_in, kept_in, merged}
 use Rattle.tp_ops.specs.declared.command.Command.{Command}
 use Rattle.tp_ops.specs.declared.operation.Answer.{Answer}
 use Rattle.tp_print.proofs.Tabled.{start_table}
-use Rattle.tp_print.specs.Replay.{AreTables, IsReplay, IsTable, Table, submitted_by, table_with}
+use Rattle.tp_base.specs.Names.{same_name}
+use Rattle.tp_base.specs.declared.names.ActorName.TheVariants.{Session}
+use Rattle.tp_print.specs.Replay.{AreTables, IsReplay, IsReplayAfter, IsTable, Table, after_act, is_named, submitted_by, table_with}
 use Rattle.tp_print.specs.declared.replay.Replay.{Replay}
-use Rattle.tp_rules.specs.Acts.{Client}
+use Rattle.tp_rules.specs.Acts.{Act, Client}
+use Rattle.tp_rules.specs.Journal.{act_of, acts, with_act}
+use Rattle.tp_rules.specs.declared.event.Entry.{Entry}
 use Rattle.tp_rules.specs.Addresses.{accessed}
-use Rattle.tp_rules.specs.Session.{Moved, SessionState, answers_at, is_awaited, is_whole, merged_reply, on_inner, on_result, reply, start}
+use Rattle.tp_rules.specs.Session.{Moved, SessionState, answers_at, is_awaited, is_whole, merged_reply, on_inner, on_result, reply, start, state_after}
 use Rattle.tp_rules.specs.Tables.{nth, with_nth}
 use Rattle.tp_rules.specs.declared.event.Inner.{Inner}
 use Rattle.tp_rules.specs.declared.event.Inner.TheVariants.{Submit, Recover, Announce, Declare, Execute, Crash}
@@ -149,3 +153,18 @@ replied shape client replay state place c parts answers h at there whole is =
     ap (λ (a : List Answer). Some a) is
     ∙ ap (λ (b : Bool). cond b (Some (merged shape.partitions c.ops (answers_in parts))) None) (sym whole)
     ∙ reply_is shape client replay state place c parts h at there
+
+-- one entry of the session more
+after_with : (shape : Shape) (client : Client) (o : Option Act) (before : List Act) → after_act shape client o (state_after shape client before) ≡ state_after shape client (with_act o before)
+after_with shape client None before = refl
+after_with shape client (Some act) before = refl
+
+pub entry_replayed : (shape : Shape) (client : Client) (s : ℕ) (older : List Entry) (e : Entry) (new : Replay) → client.session ≡ record { 0 = s }
+    → is_named e.actor s ≡ true → IsReplay shape client new (after_act shape client (act_of older e.event) (state_after shape client (acts older (Session client.session))))
+    → IsReplayAfter shape client (e ∷ older) new
+entry_replayed shape client s older e new session is h =
+    subst (λ (state : SessionState). IsReplay shape client new state)
+    (after_with shape client (act_of older e.event) (acts older (Session client.session))
+    ∙ ap (λ (b : Bool). state_after shape client (cond b (with_act (act_of older e.event) (acts older (Session client.session))) (acts older (Session client.session))))
+    (sym (ap (λ (id : SessionId). same_name e.actor (Session id)) session ∙ is)))
+    h

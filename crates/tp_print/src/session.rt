@@ -1,4 +1,4 @@
-ghost use Rattle.std.specs.Prelude.{◌≡◌, ◌++◌, ◌<◌, suc, Some, filter, is_none, length, map, reverse, IfOk, OnOk};
+ghost use Rattle.std.specs.Prelude.{◌≡◌, ◌++◌, ◌<◌, suc, cond, Some, filter, is_none, length, map, reverse, IfOk, OnOk};
 ghost use Rattle.std.specs.List.{flat_map};
 ghost use Rattle.tp_print.specs.Replay.{IsClient, IsReplay, IsReplayAfter};
 ghost use Rattle.tp_print.specs.Replies.{lines_of, open_of};
@@ -73,7 +73,7 @@ fn put_reply(
     out.byte(b'\n')
 }
 
-/// The line of one command's reply, where it is answered. Tells whether it isn't.
+/// The line of one command's reply, where it is answered. Gives 1 where it isn't, and else 0.
 fn put_if_answered(
     alloc: Global,
     out: &mut Put,
@@ -82,16 +82,16 @@ fn put_if_answered(
     commands: &[&Command],
     replay: &Replay,
     place: usize,
-) -> Result<bool, NoMemory>
+) -> Result<usize, NoMemory>
     requires { place < length commands.now }
-    ensures { IfOk result (λ is_open. (client : Client) (state : SessionState) → client.commands ≡ map (λ command. command.now) commands.now → IsReplay topology.now client replay.now state → (out.new ≡ out.old ++ reply_line (id_of session (suc place)) (reply topology.now client state (suc place))) × (is_open ≡ is_none (reply topology.now client state (suc place)))) }
+    ensures { IfOk result (λ unanswered. (client : Client) (state : SessionState) → client.commands ≡ map (λ command. command.now) commands.now → IsReplay topology.now client replay.now state → (out.new ≡ out.old ++ reply_line (id_of session (suc place)) (reply topology.now client state (suc place))) × (unanswered ≡ cond (is_none (reply topology.now client state (suc place))) 1 0)) }
 {
     match replay.reply(alloc, topology, commands, place)? {
         Some(answers) => {
             put_reply(alloc, out, session as u64, place as u64 + 1, &answers)?;
-            Ok(false)
+            Ok(0)
         }
-        None => Ok(true),
+        None => Ok(1),
     }
 }
 
@@ -111,9 +111,7 @@ pub fn put_replies(
     let replay = replay_of(alloc, &script.topology, session, commands, entries)?;
     let mut unanswered = 0usize;
     for i in 0..commands.len() {
-        if put_if_answered(alloc, out, &script.topology, session, commands, &replay, i)? {
-            unanswered += 1;
-        }
+        unanswered += put_if_answered(alloc, out, &script.topology, session, commands, &replay, i)?;
     }
     Ok(unanswered)
 }

@@ -12,7 +12,7 @@ returns c = λ client state session commands h.
     let low : c.args.id.number ≤ c.args.self.now.submitted = omega arith in
     let place : c.args.id.number - 1 < length c.args.commands.now = omega arith in
     let within : c.args.id.number - 1 < length c.args.self.now.kept.items =
-    omega (arith, h.places, ap length commands, length-map (λ (k : Bor Command). k.now) c.args.commands.now) in
+    omega (arith, h.places, ap length commands, length-map c.args.commands.now (λ (k : Bor Command). k.now)) in
     let at : slice_get client.commands (c.args.id.number - 1) ≡ Some c.index-commands-place.result.now =
     ap (λ (cs : List Command). slice_get cs (c.args.id.number - 1)) commands
     ∙ command_at c.args.commands.now (c.args.id.number - 1) c.index-commands-place.result place c.index-commands-place.is in
