@@ -1,3 +1,4 @@
 pub mod Recorded
 pub mod Replay
+pub mod Replies
 pub mod Report
