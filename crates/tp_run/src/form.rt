@@ -171,3 +171,80 @@ fn digit(byte: u8) -> Result<u8, FormError>
         _ => Err(FormError::Form),
     }
 }
+
+#[cfg(test)]
+mod tests {
+    use super::{FormError, HEAD, TAIL, read_form};
+    use std::alloc::{AllocError, Global};
+    use std::test::Fail;
+    use tp_ops::Op;
+    use tp_script::Script;
+
+    // The head with a key behind it.
+    const KEYED: &[u8] = b"tempo 1\nshape 1 3 1\nsession 1 1\ncommand 1 put 61 ";
+
+    // The tail with a value before it.
+    const VALUED: &[u8] = b" 31\nend\n";
+
+    const WIDER: &[u8] = b"tempo 1\nshape 1 5 1\nsession 1 1\ncommand 1 put ";
+
+    // Whether a script's first operation is a put of the wanted key and value.
+    fn is_put(script: &Script, wanted: (&[u8], &[u8])) -> bool {
+        let Some(command) = script.commands.get(0) else {
+            return false;
+        };
+        let Some(Op::Put { key, value }) = command.ops.get(0) else {
+            return false;
+        };
+        key.as_slice() == wanted.0 && value.as_slice() == wanted.1
+    }
+
+    fn text_of(alloc: Global, parts: [&[u8]; 3]) -> Result<Vec<u8>, AllocError> {
+        let mut text = Vec::new(alloc);
+        for part in parts {
+            text.extend_from_slice(part)?;
+        }
+        Ok(text)
+    }
+
+    // Whether a text is read as the wanted put, or is refused where none is wanted.
+    fn is_read_as(
+        alloc: Global,
+        text: &[u8],
+        wanted: Option<(&[u8], &[u8])>,
+    ) -> Result<bool, FormError> {
+        match (read_form(alloc, text), wanted) {
+            (Ok(script), Some(wanted)) => Ok(is_put(&script, wanted)),
+            (Err(FormError::Form), None) => Ok(true),
+            (Err(FormError::NoMemory), _) => Err(FormError::NoMemory),
+            _ => Ok(false),
+        }
+    }
+
+    #[test]
+    fn reads_one_put(rt: HostRuntime) -> Result<(), Fail> {
+        let alloc = rt.alloc();
+        let cases: [([&[u8]; 3], Option<(&[u8], &[u8])>); 15] = [
+            ([HEAD, b"61 31", TAIL], Some((b"a", b"1"))),
+            ([HEAD, b"00ff -", TAIL], Some((&[0, 255], b""))),
+            ([HEAD, &[b'6'; 64], VALUED], Some((&[b'f'; 32], b"1"))),
+            ([HEAD, &[b'6'; 66], VALUED], None),
+            ([KEYED, &[b'6'; 128], TAIL], Some((b"a", &[b'f'; 64]))),
+            ([KEYED, &[b'6'; 130], TAIL], None),
+            ([HEAD, b"6A 31", TAIL], None),
+            ([HEAD, b"616 31", TAIL], None),
+            ([HEAD, b"- 31", TAIL], None),
+            ([HEAD, b" 31", TAIL], None),
+            ([HEAD, b"61 ", TAIL], None),
+            ([HEAD, b"61", TAIL], None),
+            ([b"", b"", b""], None),
+            ([WIDER, b"61 31", TAIL], None),
+            ([HEAD, b"61 31", b"\nend\n\n"], None),
+        ];
+        for (parts, wanted) in cases {
+            let text = text_of(alloc, parts)?;
+            assert!(rt; is_read_as(alloc, text.as_slice(), wanted)?);
+        }
+        Ok(())
+    }
+}
