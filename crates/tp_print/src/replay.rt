@@ -1,7 +1,7 @@
 ghost use Rattle.std.specs.Prelude.{◌≡◌, ◌≤◌};
 ghost use Rattle.tp_rules.specs.Addresses.{is_between, is_name_of, is_site_of};
-ghost use Rattle.tp_print.specs.Replay.{is_named};
 
+use crate::events::is_session;
 use crate::journal::output;
 use std::alloc::Global;
 use tp_base::{ActorName, CommandId, Duplicate, NoMemory, PartitionId, Site};
@@ -16,16 +16,6 @@ use tp_wire::{Body, Message};
 pub struct Replay {
     submitted: u32,
     kept: Vec<Parts>,
-}
-
-/// Whether a name is that of a session.
-pub fn is_session(name: ActorName, session: usize) -> bool
-    ensures { result ≡ is_named name session }
-{
-    match name {
-        ActorName::Session(id) => usize::from(id.0) == session,
-        _ => false,
-    }
 }
 
 fn is_partition(topology: &Topology, p: PartitionId) -> bool

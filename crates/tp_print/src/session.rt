@@ -1,4 +1,5 @@
-use crate::replay::{Replay, is_session};
+use crate::events::is_session;
+use crate::replay::Replay;
 use crate::words::{put_answer, put_id};
 use std::alloc::Global;
 use tp_base::{NoMemory, Put};
