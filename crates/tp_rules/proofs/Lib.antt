@@ -14,3 +14,4 @@ mod OnePutIllegal
 mod KeptCommand
 mod Operations
 mod Quorums
+mod OnePutAccepted
