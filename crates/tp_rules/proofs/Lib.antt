@@ -1,17 +1,27 @@
-mod RunWords
+mod FiveReplicas
+mod KeptCommand
 mod OnePut
-mod OnePutOutputs
-mod OnePutPicked
+mod OnePutAccepted
+mod OnePutIllegal
 mod OnePutLegal
 mod OnePutOutcome
-mod FiveReplicas
-mod TwoPartitions
-mod SameSheet
-mod RefusalsOfProcess
-mod RefusalsOfExecutor
-mod RefusalsOfSession
-mod OnePutIllegal
-mod KeptCommand
+mod OnePutOutputs
+mod OnePutPicked
 mod Operations
 mod Quorums
-mod OnePutAccepted
+mod RefusalsOfExecutor
+mod RefusalsOfProcess
+mod RefusalsOfSession
+mod RunWords
+mod SameSheet
+mod TwoPartitions
+pub mod CarriedCommands
+pub mod DeliveriesLeft
+pub mod HowMany
+pub mod LaterKinds
+pub mod Parcels
+pub mod Provenance
+pub mod SendsOfProcess
+pub mod Tallies
+pub mod Undelivered
+pub mod Weights
