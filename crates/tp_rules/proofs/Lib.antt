@@ -12,3 +12,4 @@ mod RefusalsOfExecutor
 mod RefusalsOfSession
 mod OnePutIllegal
 mod KeptCommand
+pub mod Journals
