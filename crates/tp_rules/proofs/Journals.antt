@@ -98,12 +98,16 @@ output_is journal entry place = snoc_ind (λ (l : List Entry). in_order l entry 
     nth_none : (n : ℕ) → nth {X = Entry} [] n ≡ None
     nth_none zero = refl
     nth_none (suc i) = refl
+
     none : in_order [] entry place ≡ None
     none = ap (option_and_then (λ (e : Entry). nth e.outputs place)) (nth_none entry)
+
     newest : (older : List Entry) (e : Entry) → entry ≡ suc (length older) → output_at (e ∷ older) entry place ≡ nth e.outputs place
     newest older e here = cond-true _ (nth e.outputs place) (output_at older entry place) (eq-eqb entry (suc (length older)) here)
+
     before : (older : List Entry) (e : Entry) → entry ≢ suc (length older) → output_at (e ∷ older) entry place ≡ output_at older entry place
     before older e apart = cond-false _ (nth e.outputs place) (output_at older entry place) (ne_eqb entry (suc (length older)) apart)
+
     more : (l : List Entry) (e : Entry) → in_order l entry place ≡ output_at (reverse l) entry place
         → in_order (l ++ e ∷ []) entry place ≡ output_at (reverse (l ++ e ∷ [])) entry place
     more l e old =

@@ -13,3 +13,4 @@ mod RefusalsOfSession
 mod OnePutIllegal
 mod KeptCommand
 pub mod Journals
+pub mod NoPlan
