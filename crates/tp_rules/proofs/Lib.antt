@@ -14,3 +14,5 @@ mod OnePutIllegal
 mod KeptCommand
 pub mod Journals
 pub mod NoPlan
+pub mod Selections
+pub mod Distinct
