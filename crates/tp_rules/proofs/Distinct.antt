@@ -1,6 +1,6 @@
 -- Lists with no item twice: they are no longer than a list that has all their items.
-use Rattle.std.proofs.Common.{◌≡◌, ◌≢◌, ℕ, zero, suc, ◌≤◌, inl, inr, List, [], ◌∷◌, length, refl, sym, subst, ◌∙◌, ap, arith}
-use Rattle.tp_base.specs.Lists.{Each, IsIn}
+use Rattle.std.proofs.Common.{◌≡◌, ◌≢◌, ℕ, suc, ◌≤◌, inl, inr, List, [], ◌∷◌, length, refl, sym, subst, ◌∙◌, ap, arith}
+use Rattle.tp_base.specs.Lists.{IsIn}
 
 -- no item stands twice
 abbrev pub Distinct : {X : Type 0} → List X → Type 0
@@ -33,5 +33,5 @@ distinct_within [] ys once within = omega arith
 distinct_within (x ∷ xs) ys once within =
     let w = without x ys (within x (inl refl)) in
     let rest : length xs ≤ length w.rest = distinct_within xs w.rest once.1
-        (λ y k. w.others y (within y (inr k)) (λ (same : y ≡ x). once.0 (subst (λ z. IsIn z xs) same k))) in
+    (λ y k. w.others y (within y (inr k)) (λ (same : y ≡ x). once.0 (subst (λ z. IsIn z xs) same k))) in
     omega (arith, w.longer)

@@ -16,3 +16,5 @@ pub mod Journals
 pub mod NoPlan
 pub mod Selections
 pub mod Distinct
+pub mod Fit
+pub mod FitSessions

@@ -1,12 +1,12 @@
 -- What holds of each item of a list that is filtered, mapped, flattened or turned round, and of the numbers 1 to n.
-use Rattle.std.proofs.Common.{◌≡◌, ℕ, zero, suc, ◌≤◌, inl, inr, Bool, true, false, cond, List, [], ◌∷◌, ◌++◌, length, Option, Some, None, refl, sym, subst, arith}
+use Rattle.std.proofs.Common.{◌≡◌, ℕ, zero, suc, ◌≤◌, inl, inr, Bool, true, List, [], ◌∷◌, length, Some, arith}
 use Rattle.std.proofs.lemmas.Bool.{cond_both, or_cases}
 use Rattle.std.specs.List.{flat_map, list_any}
 use Rattle.std.specs.Prelude.{filter, map, replicate, reverse, slice_get}
 use Rattle.tp_base.proofs.Each.{each_append, each_in, each_of, each_push, each_weaker}
 use Rattle.tp_base.proofs.Members.{in_get, in_reversed}
 use Rattle.tp_base.specs.Limits.{IsFrom}
-use Rattle.tp_base.specs.Lists.{Each, IsIn}
+use Rattle.tp_base.specs.Lists.{Each}
 use Rattle.tp_topology.specs.Counting.{up_to}
 
 pub each_filter : {X : Type 0} (P : X → Type 0) (test : X → Bool) (xs : List X) → Each P xs → Each P (filter test xs)
