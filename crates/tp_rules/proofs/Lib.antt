@@ -18,3 +18,4 @@ pub mod Selections
 pub mod Distinct
 pub mod Fit
 pub mod FitSessions
+pub mod FitExecutors
