@@ -19,3 +19,5 @@ pub mod Distinct
 pub mod Fit
 pub mod FitSessions
 pub mod FitExecutors
+pub mod FitPromises
+pub mod FitStamps

@@ -14,6 +14,10 @@ each_filter P test [] h = tt
 each_filter P test (x ∷ xs) h =
     cond_both (test x) (x ∷ filter test xs) (filter test xs) (Each P) (λ t. (h.0, each_filter P test xs h.1)) (λ f. each_filter P test xs h.1)
 
+pub each_of_all : {X : Type 0} (P : X → Type 0) (xs : List X) → ((x : X) → P x) → Each P xs
+each_of_all P [] h = tt
+each_of_all P (x ∷ xs) h = (h x, each_of_all P xs h)
+
 pub each_image : {X Y : Type 0} (P : Y → Type 0) (f : X → Y) (xs : List X) → Each (λ x. P (f x)) xs → Each P (map f xs)
 each_image P f [] h = tt
 each_image P f (x ∷ xs) h = (h.0, each_image P f xs h.1)
