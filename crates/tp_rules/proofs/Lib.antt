@@ -21,3 +21,4 @@ pub mod FitSessions
 pub mod FitExecutors
 pub mod FitPromises
 pub mod FitStamps
+pub mod FitProcesses
