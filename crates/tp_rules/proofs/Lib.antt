@@ -25,3 +25,15 @@ pub mod SendsOfProcess
 pub mod Tallies
 pub mod Undelivered
 pub mod Weights
+mod OnePutIllegal
+mod KeptCommand
+pub mod Journals
+pub mod NoPlan
+pub mod Selections
+pub mod Distinct
+pub mod Fit
+pub mod FitSessions
+pub mod FitExecutors
+pub mod FitPromises
+pub mod FitStamps
+pub mod FitProcesses
