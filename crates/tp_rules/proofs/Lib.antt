@@ -17,23 +17,21 @@ mod SameSheet
 mod TwoPartitions
 pub mod CarriedCommands
 pub mod DeliveriesLeft
+pub mod Distinct
+pub mod Fit
+pub mod FitExecutors
+pub mod FitProcesses
+pub mod FitPromises
+pub mod FitSessions
+pub mod FitStamps
 pub mod HowMany
+pub mod Journals
 pub mod LaterKinds
+pub mod NoPlan
 pub mod Parcels
 pub mod Provenance
+pub mod Selections
 pub mod SendsOfProcess
 pub mod Tallies
 pub mod Undelivered
 pub mod Weights
-mod OnePutIllegal
-mod KeptCommand
-pub mod Journals
-pub mod NoPlan
-pub mod Selections
-pub mod Distinct
-pub mod Fit
-pub mod FitSessions
-pub mod FitExecutors
-pub mod FitPromises
-pub mod FitStamps
-pub mod FitProcesses
