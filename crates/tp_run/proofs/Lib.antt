@@ -1,1 +1,2 @@
 pub mod FormTexts
+pub mod TopCalls

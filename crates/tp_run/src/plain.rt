@@ -1,9 +1,9 @@
-ghost use Rattle.std.specs.Prelude.{◌≡◌, ◌≢◌, ◌⊎◌, ℕ, List, [], ◌++◌, Some, None, map, IfOk, IfErr, IfSome, IsTrue, ◌↔◌, string_bytes};
+ghost use Rattle.std.specs.Prelude.{◌≡◌, ◌≢◌, ◌⊎◌, ℕ, List, [], ◌++◌, Some, None, map, IfOk, IfErr, IfSome, IsTrue, ◌↔◌, string_bytes, codes, OnOk, length, ◌≤◌};
 ghost use Rattle.tp_outside.specs.Causes.{HasCause};
 ghost use Rattle.tp_outside.specs.Bytes.{AppendsFront};
 ghost use Rattle.std.specs.Io.KnownBytes.{Appends, Keeps};
 ghost use Rattle.tp_run.specs.Form.{IsFormOf};
-ghost use Rattle.tp_run.specs.TopCall.{step_words, IsStatusOf, IsSaidBy, IsRefusedFor, IsFaultOf};
+ghost use Rattle.tp_run.specs.TopCall.{step_words, INPUT_MOST, IsStatusOf, IsSaidBy, IsRefusedFor, IsFaultOf};
 
 use crate::cast::cast;
 use crate::finished::{Cause, Finished};
@@ -60,9 +60,15 @@ fn is_step(words: &[String]) -> bool
     ensures { IsTrue result ↔ (map string_bytes words.now ≡ step_words) }
 {
     match words {
-        [word] => word.as_str() == "step",
+        [word] => is_step_word(word),
         _ => false,
     }
+}
+
+fn is_step_word(word: &String) -> bool
+    ensures { IsTrue result ↔ (string_bytes word.now ≡ codes "step") }
+{
+    word.as_str() == "step"
 }
 
 // Nothing was read, or what was read is no script.
@@ -97,8 +103,9 @@ fn read_input<S: Source>(alloc: Global, input: &mut S) -> Result<Script, Cause>
 // The script that a text is, of which one byte more than an input may have is enough.
 fn read_text(alloc: Global, text: &[u8]) -> Result<Script, Cause>
     ensures script { IfOk result (IsFormOf text.now) }
+    ensures short { OnOk result (length text.now ≤ INPUT_MOST) }
     ensures refused { IfErr result (IsRefusedFor (Some text.now)) }
-    ensures memory { IfErr result (λ cause. cause ≢ Cause.Read) }
+    ensures unfailed { IfErr result (λ cause. cause ≢ Cause.Read) }
 {
     if text.len() > INPUT_LIMIT {
         return Err(Cause::Input {
