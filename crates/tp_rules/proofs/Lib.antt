@@ -1,33 +1,46 @@
-mod RunWords
+mod FiveReplicas
+mod KeptCommand
 mod OnePut
-mod OnePutOutputs
-mod OnePutPicked
+mod OnePutAccepted
+mod OnePutIllegal
 mod OnePutLegal
 mod OnePutOutcome
-mod FiveReplicas
-mod TwoPartitions
-mod SameSheet
-mod RefusalsOfProcess
+mod OnePutOutputs
+mod OnePutPicked
+mod Operations
+mod Quorums
 mod RefusalsOfExecutor
+mod RefusalsOfProcess
 mod RefusalsOfSession
-mod OnePutIllegal
-mod KeptCommand
-pub mod Weights
-pub mod Tallies
-pub mod Parcels
-pub mod DeliveriesLeft
-pub mod Undelivered
-pub mod SendsOfProcess
-pub mod LaterKinds
-pub mod HowMany
-pub mod CarriedCommands
-pub mod Provenance
+mod RunWords
+mod SameSheet
+mod TwoPartitions
 pub mod ActsMore
-pub mod OwnSteps
-pub mod Unsubmitted
-pub mod SitesCounted
-pub mod Unentered
-pub mod Unannounced
-pub mod Unexecuted
+pub mod CarriedCommands
+pub mod DeliveriesLeft
+pub mod Distinct
+pub mod Fit
+pub mod FitExecutors
+pub mod FitProcesses
+pub mod FitPromises
+pub mod FitSessions
+pub mod FitStamps
 pub mod Histories
+pub mod HowMany
+pub mod Journals
+pub mod LaterKinds
 pub mod LeftFalls
+pub mod NoPlan
+pub mod OwnSteps
+pub mod Parcels
+pub mod Provenance
+pub mod Selections
+pub mod SendsOfProcess
+pub mod SitesCounted
+pub mod Tallies
+pub mod Unannounced
+pub mod Undelivered
+pub mod Unentered
+pub mod Unexecuted
+pub mod Unsubmitted
+pub mod Weights
