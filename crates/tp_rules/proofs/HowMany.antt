@@ -39,11 +39,11 @@ pub length-up_to : (n : ℕ) → length (up_to n) ≡ n
 length-up_to zero = refl
 length-up_to (suc n) = let rest = length-up_to n in let both : length (up_to n ++ suc n ∷ []) ≡ length (up_to n) + 1 = length-append (up_to n) (suc n ∷ []) in omega arith
 
-flat_length : {X Y : Type 0} (f : X → List Y) (n : ℕ) (xs : List X) → ((x : X) → length (f x) ≤ n) → length (flat_map f xs) ≤ length xs * n
+pub flat_length : {X Y : Type 0} (f : X → List Y) (n : ℕ) (xs : List X) → ((x : X) → length (f x) ≤ n) → length (flat_map f xs) ≤ length xs * n
 flat_length f n [] h = omega arith
 flat_length f n (x ∷ xs) h = omega (arith, length-append (f x) (flat_map f xs), h x, flat_length f n xs h)
 
-map_length : {X Y : Type 0} (f : X → Y) (xs : List X) → length (map f xs) ≡ length xs
+pub map_length : {X Y : Type 0} (f : X → Y) (xs : List X) → length (map f xs) ≡ length xs
 map_length f [] = refl
 map_length f (x ∷ xs) = ap (λ (n : ℕ). suc n) (map_length f xs)
 

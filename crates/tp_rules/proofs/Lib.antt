@@ -15,6 +15,7 @@ mod RefusalsOfSession
 mod RunWords
 mod SameSheet
 mod TwoPartitions
+pub mod ActsMore
 pub mod CarriedCommands
 pub mod DeliveriesLeft
 pub mod Distinct
@@ -24,14 +25,22 @@ pub mod FitProcesses
 pub mod FitPromises
 pub mod FitSessions
 pub mod FitStamps
+pub mod Histories
 pub mod HowMany
 pub mod Journals
 pub mod LaterKinds
+pub mod LeftFalls
 pub mod NoPlan
+pub mod OwnSteps
 pub mod Parcels
 pub mod Provenance
 pub mod Selections
 pub mod SendsOfProcess
+pub mod SitesCounted
 pub mod Tallies
+pub mod Unannounced
 pub mod Undelivered
+pub mod Unentered
+pub mod Unexecuted
+pub mod Unsubmitted
 pub mod Weights
