@@ -6,4 +6,5 @@ pub mod Members
 pub mod Options
 pub mod Orders
 pub mod Prefixes
+pub mod Reading
 pub mod SameNames

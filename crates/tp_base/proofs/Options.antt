@@ -1,5 +1,5 @@
 -- Tests of options, and facts about answers.
-use Rattle.std.proofs.Common.{◌≡◌, Bool, true, false, Option, Some, None, Result, Ok, Err, refl}
+use Rattle.std.proofs.Common.{◌≡◌, true, false, Option, Some, None, Result, Ok, Err, refl}
 use Rattle.std.specs.Prelude.{is_none, OnOk, OnErr}
 
 pub none_of : {X : Type 0} (o : Option X) → is_none o ≡ true → o ≡ None

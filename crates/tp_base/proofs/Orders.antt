@@ -1,8 +1,8 @@
 -- Lists in order.
-use Rattle.std.proofs.Common.{◌≡◌, ℕ, zero, suc, ◌<◌, inl, inr, Bool, true, List, [], ◌∷◌, ◌++◌, Some, refl, sym, subst, arith}
+use Rattle.std.proofs.Common.{◌≡◌, ℕ, zero, suc, ◌<◌, inl, inr, Bool, true, List, [], ◌∷◌, ◌++◌, Some, sym, subst, arith}
 use Rattle.std.specs.Prelude.{slice_get}
 use Rattle.tp_base.specs.Lists.{Ascends, Each, IsIn}
-use Rattle.tp_base.proofs.Each.{each_in, each_left, each_push, each_right}
+use Rattle.tp_base.proofs.Each.{each_in, each_left, each_push}
 use Rattle.tp_base.proofs.Members.{in_get, in_right}
 
 -- what stands further left is before what stands further right

@@ -3,3 +3,4 @@ pub mod Lists
 pub mod Names
 pub mod Partition
 pub mod Promises
+pub mod Limits

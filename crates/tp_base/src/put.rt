@@ -42,7 +42,7 @@ impl Put {
         ensures written { OnOk result (self.new ≡ self.old ++ big_endian 4 v) }
         ensures same { OnErr result (self.new ≡ self.old) }
     {
-        self.bytes.extend_from_slice(&v.to_be_bytes())?;
+        self.bytes.extend_from_slice(&u32::to_be_bytes(v))?;
         Ok(())
     }
 
@@ -50,7 +50,7 @@ impl Put {
         ensures written { OnOk result (self.new ≡ self.old ++ big_endian 8 v) }
         ensures same { OnErr result (self.new ≡ self.old) }
     {
-        self.bytes.extend_from_slice(&v.to_be_bytes())?;
+        self.bytes.extend_from_slice(&u64::to_be_bytes(v))?;
         Ok(())
     }
 

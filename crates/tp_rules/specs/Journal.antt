@@ -1,5 +1,5 @@
 -- Journals, the newest entry first: what was sent, and who did what. Entries and places count from 1.
-use Rattle.std.specs.Prelude.{ℕ, suc, ◌==◌, ◌&&◌, not, Bool, true, false, cond, List, [], ◌∷◌, ◌++◌, Option, Some, None, length, option_map, map, filter, unwrap_or}
+use Rattle.std.specs.Prelude.{ℕ, suc, ◌==◌, ◌&&◌, not, Bool, true, false, cond, List, [], ◌∷◌, ◌++◌, Option, Some, None, length, option_map, map, unwrap_or}
 use Rattle.std.specs.List.{list_any}
 use Rattle.tp_base.specs.Names.{same_name}
 use Rattle.tp_base.specs.declared.names.ActorName.{ActorName}
@@ -15,6 +15,7 @@ use Rattle.tp_rules.specs.declared.event.Event.{Event}
 use Rattle.tp_rules.specs.declared.event.Event.TheVariants.{Deliver, Dropped, Inner as OfItself}
 use Rattle.tp_rules.specs.declared.event.Inner.TheVariants.{Crash}
 use Rattle.tp_rules.specs.declared.event.Parcel.{Parcel}
+use Rattle.tp_script.specs.Accepted.{commands_by}
 use Rattle.tp_script.specs.declared.script.Script.{Script}
 use Rattle.tp_topology.specs.Counting.{up_to}
 use Rattle.tp_wire.specs.declared.message.Message.{Message}
@@ -50,7 +51,7 @@ sent (e ∷ older) = sent older ++ numbered (suc (length older)) 1 e.outputs
 
 -- the commands of a session, in order
 abbrev pub commands_of : Script → SessionId → List Command
-commands_of script s = filter (λ c. c.id.session.0 == s.0) script.commands
+commands_of script s = commands_by s.0 script.commands
 
 abbrev pub home_of : Script → SessionId → ℕ
 home_of script s = unwrap_or (option_map (λ home. home.0) (nth script.homes s.0)) 0
@@ -95,6 +96,6 @@ abbrev pub is_loss_of : ℕ → ℕ → Event → Bool
 is_loss_of entry place (Dropped e p) = (e == entry) && (p == place)
 is_loss_of entry place _ = false
 
--- all sites, ascending
+-- the sites of a partition, ascending
 abbrev pub ranks_of : Script → ℕ → List Site
 ranks_of script p = map (site p) (up_to script.topology.replicas)

@@ -119,6 +119,6 @@ impl Topology {
         requires rank { (1 ≤ rank.0) × (rank.0 ≤ self.now.replicas) }
         ensures { IsTrue result ↔ IsTrue (in_ring self.now home.0 rank.0) }
     {
-        (rank.0 + self.replicas - home.0) % self.replicas < self.replicas / 2 + self.failures
+        (rank.0 + self.replicas - home.0) % self.replicas < self.fast_size()
     }
 }

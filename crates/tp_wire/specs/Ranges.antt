@@ -1,63 +1,19 @@
 -- Which messages have bytes: each number in its range, each list no longer than its limit, and the
 -- sorts of sender and addressee that the kind has.
 use Rattle.std.specs.Prelude.{ℕ, ◌+◌, ◌-◌, ◌^◌, ◌≤◌, ◌<◌, List, [], ◌∷◌, length}
+use Rattle.tp_base.specs.Limits.{IsFrom, IsSite, IsSession, IsId}
 use Rattle.tp_base.specs.Lists.{Each}
 use Rattle.tp_base.specs.declared.names.ActorName.{ActorName}
 use Rattle.tp_base.specs.declared.names.ActorName.TheVariants.{Process, Executor, Session}
-use Rattle.tp_base.specs.declared.names.CommandId.{CommandId}
 use Rattle.tp_base.specs.declared.names.Pair.{Pair}
-use Rattle.tp_base.specs.declared.names.SessionId.{SessionId}
-use Rattle.tp_base.specs.declared.names.Site.{Site}
-use Rattle.tp_ops.specs.declared.command.Command.{Command}
-use Rattle.tp_ops.specs.declared.operation.Answer.{Answer}
-use Rattle.tp_ops.specs.declared.operation.Answer.TheVariants.{Missing, Value, Yes, No}
-use Rattle.tp_ops.specs.declared.operation.Op.{Op}
-use Rattle.tp_ops.specs.declared.operation.Op.TheVariants.{Get, Put, Del, Cas}
+use Rattle.tp_ops.specs.Limits.{IsCommand, IsAnswer}
 use Rattle.tp_wire.specs.declared.message.Body.{Body}
 use Rattle.tp_wire.specs.declared.message.Body.TheVariants.{MSubmit, MPropose, MPayload, MProposeAck, MBump, MConsensus, MConsensusAck, MCommit, MRec, MRecAck, MPromises, MCommitted, MStable, MResult}
 use Rattle.tp_wire.specs.declared.message.Message.{Message}
 
--- from low to high
-abbrev pub IsFrom : ℕ → ℕ → ℕ → Type 0
-IsFrom low high n = (low ≤ n) × (n ≤ high)
-
-abbrev pub IsSite : Site → Type 0
-IsSite site = IsFrom 1 4 site.partition.0 × IsFrom 1 7 site.rank.0
-
-abbrev pub IsSession : SessionId → Type 0
-IsSession session = IsFrom 1 16 session.0
-
-abbrev pub IsId : CommandId → Type 0
-IsId id = IsSession id.session × IsFrom 1 1000 id.number
-
--- bytes, so many of them
-abbrev pub IsText : ℕ → ℕ → List ℕ → Type 0
-IsText low high bytes = IsFrom low high (length bytes) × Each (λ b. b < 256) bytes
-
-abbrev pub IsKey : List ℕ → Type 0
-IsKey bytes = IsText 1 32 bytes
-
-abbrev pub IsValue : List ℕ → Type 0
-IsValue bytes = IsText 0 64 bytes
-
-abbrev pub IsOp : Op → Type 0
-IsOp (Get key) = IsKey key
-IsOp (Put key value) = IsKey key × IsValue value
-IsOp (Del key) = IsKey key
-IsOp (Cas key old new) = IsKey key × IsValue old × IsValue new
-
-abbrev pub IsCommand : Command → Type 0
-IsCommand c = IsId c.id × IsFrom 1 7 c.home.0 × IsFrom 1 16 (length c.ops) × Each IsOp c.ops
-
 -- stamps and ballots
 abbrev pub IsNumber : ℕ → Type 0
 IsNumber n = IsFrom 1 (2 ^ 48 - 1) n
-
-abbrev pub IsAnswer : Answer → Type 0
-IsAnswer Missing = Unit {0}
-IsAnswer (Value value) = IsValue value
-IsAnswer Yes = Unit {0}
-IsAnswer No = Unit {0}
 
 -- each stamp above the one before, in lo + 1 to hi
 abbrev pub IsAttached : ℕ → ℕ → List Pair → Type 0

@@ -1,0 +1,18 @@
+-- The ranges of names.
+use Rattle.std.specs.Prelude.{ℕ, ◌≤◌}
+use Rattle.tp_base.specs.declared.names.CommandId.{CommandId}
+use Rattle.tp_base.specs.declared.names.SessionId.{SessionId}
+use Rattle.tp_base.specs.declared.names.Site.{Site}
+
+-- from low to high
+abbrev pub IsFrom : ℕ → ℕ → ℕ → Type 0
+IsFrom low high n = (low ≤ n) × (n ≤ high)
+
+abbrev pub IsSite : Site → Type 0
+IsSite site = IsFrom 1 4 site.partition.0 × IsFrom 1 7 site.rank.0
+
+abbrev pub IsSession : SessionId → Type 0
+IsSession session = IsFrom 1 16 session.0
+
+abbrev pub IsId : CommandId → Type 0
+IsId id = IsSession id.session × IsFrom 1 1000 id.number

@@ -1,0 +1,99 @@
+-- Messages in the ranges of the wire format whose commands are the script's, and what of a script's shape they need.
+-- Each message that a run sends is such a one.
+use Rattle.std.proofs.Common.{◌≡◌, ℕ, true, Option, Some, None, arith}
+use Rattle.std.proofs.lemmas.Bool.{and_parts, leb-true}
+use Rattle.std.specs.Prelude.{nat_le}
+use Rattle.tp_base.proofs.Each.{each_in, each_weaker}
+use Rattle.tp_base.specs.Limits.{IsFrom, IsSite}
+use Rattle.tp_base.specs.Lists.{Each, IsIn}
+use Rattle.tp_base.specs.declared.names.ActorName.TheVariants.{Process, Executor}
+use Rattle.tp_base.specs.declared.names.Site.{Site}
+use Rattle.tp_ops.specs.Limits.{IsCommand}
+use Rattle.tp_ops.specs.Parts.{is_accessed}
+use Rattle.tp_ops.specs.declared.command.Command.{Command}
+use Rattle.tp_rules.proofs.Selections.{each_filter, each_image, each_up_to}
+use Rattle.tp_rules.specs.Acts.{Act, Took, Did}
+use Rattle.tp_rules.specs.Addresses.{accessed, executors_of, is_between, is_site_of, others_accessed, processes_of, site}
+use Rattle.tp_script.specs.Accepted.{IsAccepted, IsCommandOf}
+use Rattle.tp_script.specs.declared.script.Script.{Script}
+use Rattle.tp_topology.specs.Counting.{up_to}
+use Rattle.tp_topology.specs.Shape.{Shape, IsShape}
+use Rattle.tp_wire.specs.Ranges.{IsExecutor, IsInRange, IsProcess}
+use Rattle.tp_wire.specs.declared.message.Body.{Body}
+use Rattle.tp_wire.specs.declared.message.Body.TheVariants.{MSubmit, MPropose, MPayload, MProposeAck, MBump, MConsensus, MConsensusAck, MCommit, MRec, MRecAck, MPromises, MCommitted, MStable, MResult}
+use Rattle.tp_wire.specs.declared.message.Message.{Message}
+
+-- what a message carries is a command of the script
+abbrev pub IsBodyOf : Script → Body → Type 0
+IsBodyOf script (MSubmit c) = IsIn c script.commands
+IsBodyOf script (MPropose c floor) = IsIn c script.commands
+IsBodyOf script (MPayload c) = IsIn c script.commands
+IsBodyOf script (MProposeAck id t) = Unit {0}
+IsBodyOf script (MBump id t) = Unit {0}
+IsBodyOf script (MConsensus c t b) = IsIn c script.commands
+IsBodyOf script (MConsensusAck id b) = Unit {0}
+IsBodyOf script (MCommit c q t) = IsIn c script.commands
+IsBodyOf script (MRec c b) = IsIn c script.commands
+IsBodyOf script (MRecAck id t made a b) = Unit {0}
+IsBodyOf script (MPromises lo hi pairs) = Unit {0}
+IsBodyOf script (MCommitted c t) = IsIn c script.commands
+IsBodyOf script (MStable id) = Unit {0}
+IsBodyOf script (MResult id q answers) = Unit {0}
+
+pub record IsFit (script : Script) (m : Message) : Type 0 where
+  pub range : IsInRange m
+  pub ours : IsBodyOf script m.body
+
+abbrev pub IsFitAct : Script → Act → Type 0
+IsFitAct script (Took m) = IsFit script m
+IsFitAct script (Did inner) = Unit {0}
+
+-- P of what is there, if anything is
+abbrev pub IfAny : {X : Type 0} → (X → Type 0) → Option X → Type 0
+IfAny P None = Unit {0}
+IfAny P (Some x) = P x
+
+-- a command of the script that accesses a partition
+pub record IsCommandHere (script : Script) (p : ℕ) (c : Command) : Type 0 where
+  pub ours : IsIn c script.commands
+  pub accesses : is_accessed script.topology.partitions c p ≡ true
+
+pub command_in_range : (script : Script) (c : Command) → IsAccepted script → IsIn c script.commands → IsCommand c
+command_in_range script c accepted h =
+    let of : IsCommandOf script.homes c = each_in (IsCommandOf script.homes) script.commands c accepted.commands h in of.0
+
+pub between_is : (n high : ℕ) → is_between n high ≡ true → IsFrom 1 high n
+between_is n high h =
+    let both : (nat_le 1 n ≡ true) × (nat_le n high ≡ true) = and_parts (nat_le 1 n) (nat_le n high) h in
+    (leb-true 1 n both.0, leb-true n high both.1)
+
+-- numbers of a shape are in the ranges of names
+
+pub site_is : (shape : Shape) (s : Site) → is_site_of shape s ≡ true
+    → IsFrom 1 shape.partitions s.partition.0 × IsFrom 1 shape.replicas s.rank.0
+site_is shape s h =
+    let both = and_parts (is_between s.partition.0 shape.partitions) (is_between s.rank.0 shape.replicas) h in
+    (between_is s.partition.0 shape.partitions both.0, between_is s.rank.0 shape.replicas both.1)
+
+pub site_in_range : (shape : Shape) → IsShape shape → (p k : ℕ) → IsFrom 1 shape.partitions p → IsFrom 1 shape.replicas k → IsSite (site p k)
+site_in_range shape is_shape p k of_partition of_rank = (
+  (of_partition.0, omega (arith, of_partition.1, is_shape.few_partitions)),
+  (of_rank.0, omega (arith, of_rank.1, is_shape.few_replicas)),
+)
+
+pub each_accessed : (shape : Shape) (c : Command) → Each (IsFrom 1 shape.partitions) (accessed shape c)
+each_accessed shape c =
+    each_filter (IsFrom 1 shape.partitions) (is_accessed shape.partitions c) (up_to shape.partitions) (each_up_to shape.partitions)
+
+pub each_other_accessed : (shape : Shape) (c : Command) (p : ℕ) → Each (IsFrom 1 shape.partitions) (others_accessed shape c p)
+each_other_accessed shape c p = each_filter (IsFrom 1 shape.partitions) _ (accessed shape c) (each_accessed shape c)
+
+pub each_process : (shape : Shape) → IsShape shape → (p : ℕ) → IsFrom 1 shape.partitions p → Each IsProcess (processes_of shape p)
+each_process shape is_shape p of_partition = each_image IsProcess (λ rank. Process (site p rank)) (up_to shape.replicas)
+    (each_weaker (IsFrom 1 shape.replicas) (λ rank. IsSite (site p rank)) (λ k. site_in_range shape is_shape p k of_partition)
+    (up_to shape.replicas) (each_up_to shape.replicas))
+
+pub each_executor : (shape : Shape) → IsShape shape → (p : ℕ) → IsFrom 1 shape.partitions p → Each IsExecutor (executors_of shape p)
+each_executor shape is_shape p of_partition = each_image IsExecutor (λ rank. Executor (site p rank)) (up_to shape.replicas)
+    (each_weaker (IsFrom 1 shape.replicas) (λ rank. IsSite (site p rank)) (λ k. site_in_range shape is_shape p k of_partition)
+    (up_to shape.replicas) (each_up_to shape.replicas))

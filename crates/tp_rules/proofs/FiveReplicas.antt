@@ -1,0 +1,73 @@
+-- Five replicas, of which two may fail: the greatest proposal is decided at once where two made it, and put to the vote where one did.
+use Rattle.std.proofs.Common.{◌≡◌, ℕ, [], ◌∷◌, refl}
+use Rattle.tp_ops.specs.declared.command.Command.{Command}
+use Rattle.tp_ops.specs.declared.operation.Op.TheVariants.{Put}
+use Rattle.tp_rules.proofs.RunWords.{process_at, executor_at, session_of, partition, stamp, id, command, the_rules}
+use Rattle.tp_rules.specs.Acts.{Act, Took, Identity, ProcessAt}
+use Rattle.tp_rules.specs.Addresses.{message, site}
+use Rattle.tp_rules.specs.Process.{state_after}
+use Rattle.tp_rules.specs.Rules.{outputs_of}
+use Rattle.tp_rules.specs.Sheet.{ring_setting}
+use Rattle.tp_topology.specs.Shape.{Shape}
+use Rattle.tp_wire.specs.declared.message.Body.TheVariants.{MSubmit, MPropose, MPayload, MProposeAck, MConsensus, MCommit, MCommitted}
+
+abbrev five : Shape
+five = record { partitions = 2; replicas = 5; failures = 2 }
+
+-- put b 1, on partition 1 alone, home rank 1
+abbrev put_b : Command
+put_b = command (id 1 1) 1 (Put (98 ∷ []) (49 ∷ []) ∷ [])
+
+abbrev home : Identity
+home = ProcessAt five (site 1 1)
+
+abbrev submitted : Act
+submitted = Took (message (session_of 1) (process_at 1 1) (MSubmit put_b))
+
+abbrev acknowledged : ℕ → ℕ → Act
+acknowledged rank t = Took (message (process_at 1 rank) (process_at 1 1) (MProposeAck (id 1 1) (stamp t)))
+
+-- the home's proposal is the floor of the others
+home_proposes : outputs_of home [] submitted ≡
+    message (process_at 1 1) (process_at 1 2) (MPropose put_b (stamp 1)) ∷
+    message (process_at 1 1) (process_at 1 3) (MPropose put_b (stamp 1)) ∷
+    message (process_at 1 1) (process_at 1 4) (MPropose put_b (stamp 1)) ∷
+    message (process_at 1 1) (process_at 1 5) (MPayload put_b) ∷
+    []
+unfolding the_rules
+home_proposes = refl
+
+first_waits : outputs_of home (submitted ∷ []) (acknowledged 2 1) ≡ []
+unfolding the_rules
+first_waits = refl
+
+second_waits : outputs_of home (acknowledged 2 1 ∷ submitted ∷ []) (acknowledged 3 1) ≡ []
+unfolding the_rules
+second_waits = refl
+
+-- 1, 1, 1 and 2: one made the greatest
+slow : outputs_of home (acknowledged 3 1 ∷ acknowledged 2 1 ∷ submitted ∷ []) (acknowledged 4 2) ≡
+    message (process_at 1 1) (process_at 1 1) (MConsensus put_b (stamp 2) 1) ∷
+    message (process_at 1 1) (process_at 1 2) (MConsensus put_b (stamp 2) 1) ∷
+    message (process_at 1 1) (process_at 1 3) (MConsensus put_b (stamp 2) 1) ∷
+    message (process_at 1 1) (process_at 1 4) (MConsensus put_b (stamp 2) 1) ∷
+    message (process_at 1 1) (process_at 1 5) (MConsensus put_b (stamp 2) 1) ∷
+    []
+unfolding the_rules
+slow = refl
+
+-- 1, 1, 2 and 2: two made the greatest
+fast : outputs_of home (acknowledged 3 2 ∷ acknowledged 2 1 ∷ submitted ∷ []) (acknowledged 4 2) ≡
+    message (process_at 1 1) (process_at 1 2) (MCommit put_b (partition 1) (stamp 2)) ∷
+    message (process_at 1 1) (process_at 1 3) (MCommit put_b (partition 1) (stamp 2)) ∷
+    message (process_at 1 1) (process_at 1 4) (MCommit put_b (partition 1) (stamp 2)) ∷
+    message (process_at 1 1) (process_at 1 5) (MCommit put_b (partition 1) (stamp 2)) ∷
+    message (process_at 1 1) (executor_at 1 1) (MCommitted put_b (stamp 2)) ∷
+    []
+unfolding the_rules
+fast = refl
+
+-- and the home's clock goes on to the stamp
+fast_clock : (state_after (ring_setting five) (site 1 1) (acknowledged 4 2 ∷ acknowledged 3 2 ∷ acknowledged 2 1 ∷ submitted ∷ [])).clock ≡ 2
+unfolding the_rules
+fast_clock = refl

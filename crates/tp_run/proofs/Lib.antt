@@ -1,0 +1,2 @@
+pub mod FormTexts
+pub mod TopCalls

@@ -1,0 +1,11 @@
+//! A client session: it submits its commands in order, keeps the answers of their partitions, and
+//! tells the reply to each command.
+#![tactic(auto)]
+
+mod answered;
+mod session;
+mod submissions;
+#[cfg(test)]
+mod tests;
+
+pub use session::Session;
