@@ -22,3 +22,4 @@ pub mod FitExecutors
 pub mod FitPromises
 pub mod FitStamps
 pub mod FitProcesses
+pub mod FitSends
