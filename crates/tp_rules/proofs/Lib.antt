@@ -23,3 +23,4 @@ pub mod FitPromises
 pub mod FitStamps
 pub mod FitProcesses
 pub mod FitSends
+pub mod FitRules
