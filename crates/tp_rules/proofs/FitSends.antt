@@ -17,10 +17,10 @@ use Rattle.tp_base.specs.declared.names.Site.{Site}
 use Rattle.tp_ops.specs.Limits.{IsCommand}
 use Rattle.tp_ops.specs.declared.command.Command.{Command}
 use Rattle.tp_rules.proofs.Distinct.{distinct_within}
-use Rattle.tp_rules.proofs.Fit.{IfAny, IsCommandHere, IsFit, command_in_range, each_accessed, each_executor, each_other_accessed, each_process, site_in_range, site_is}
+use Rattle.tp_rules.proofs.Fit.{IsCommandHere, IsFit, command_in_range, each_accessed, each_executor, each_other_accessed, each_process, site_in_range, site_is}
 use Rattle.tp_rules.proofs.FitProcesses.{IsProcessSound, ids_of}
 use Rattle.tp_rules.proofs.FitPromises.{untold_attached}
-use Rattle.tp_rules.proofs.Selections.{each_filter, each_image, each_spread, each_up_to, filter_shorter}
+use Rattle.tp_rules.proofs.Selections.{IfAny, each_filter, each_image, each_spread, each_up_to, filter_shorter}
 use Rattle.tp_rules.specs.Addresses.{accessed, executors_of, is_site_of, message, others_accessed, processes_of, site}
 use Rattle.tp_rules.specs.Process.{ProcessState, announced, bumps, commits, proposals, put_to_vote, untold}
 use Rattle.tp_rules.specs.Sheet.{Setting}
@@ -31,11 +31,12 @@ use Rattle.tp_wire.specs.Ranges.{IsExecutor, IsNumber, IsProcess}
 use Rattle.tp_wire.specs.declared.message.Body.{Body}
 use Rattle.tp_wire.specs.declared.message.Body.TheVariants.{MPropose, MPayload, MBump, MConsensus, MCommit, MPromises}
 
+-- a script's shape, and any fast quorums
+abbrev pub setting_of : Script → (Command → ℕ → Bool) → Setting
+setting_of script in_quorum = record { shape = script.topology; in_quorum = in_quorum }
+
 module _ (script : Script) (accepted : IsAccepted script) (in_quorum : Command → ℕ → Bool) (me : Site)
     (here : is_site_of script.topology me ≡ true) where
-  abbrev pub setting : Setting
-  setting = record { shape = script.topology; in_quorum = in_quorum }
-
   pub own_partition : IsFrom 1 script.topology.partitions me.partition.0
   own_partition = (site_is script.topology me here).0
 
@@ -65,7 +66,7 @@ module _ (script : Script) (accepted : IsAccepted script) (in_quorum : Command �
       others (each_other_accessed script.topology c me.partition.0)))
 
   pub proposals_fit : (c : Command) (t : ℕ) → IsCommandHere script me.partition.0 c → IsNumber t
-      → Each (IsFit script) (proposals setting me c t)
+      → Each (IsFit script) (proposals (setting_of script in_quorum) me c t)
   unfolding proposals
   proposals_fit c t ours number =
       let range : IsCommand c = is_command c ours in

@@ -16,6 +16,7 @@ pub mod Journals
 pub mod NoPlan
 pub mod Selections
 pub mod Distinct
+pub mod EachSent
 pub mod Fit
 pub mod FitSessions
 pub mod FitExecutors
@@ -24,3 +25,4 @@ pub mod FitStamps
 pub mod FitProcesses
 pub mod FitSends
 pub mod FitRules
+pub mod InRange
