@@ -15,13 +15,21 @@ left parts taken q = drop (get_or taken (q - 1) 0) (answers_in parts q)
 abbrev next : ℕ → (ℕ → List Answer) → ℕ → List Answer
 next p f q = cond (q == p) (rest_of (f q)) (f q)
 
-merged_same : (n : ℕ) (ops : List Op) (f g : ℕ → List Answer) → ((q : ℕ) → f q ≡ g q) → merged n ops f ≡ merged n ops g
+number_low : (key : List ℕ) (n : ℕ) → 1 ≤ partition_number key n
+number_low key n = omega arith
+
+number_high : (key : List ℕ) (n : ℕ) → 1 ≤ n → partition_number key n ≤ n
+number_high key n some = omega arith
+
+-- only the answers of the partitions that there are matter
+pub merged_within : (n : ℕ) (ops : List Op) (f g : ℕ → List Answer) → 1 ≤ n → ((q : ℕ) → 1 ≤ q → q ≤ n → f q ≡ g q) → merged n ops f ≡ merged n ops g
 unfolding merged
-merged_same n [] f g same = refl
-merged_same n (op ∷ ops) f g same =
+merged_within n [] f g some same = refl
+merged_within n (op ∷ ops) f g some same =
     let p = partition_number (key_of op) n in
-    ap (λ (xs : List Answer). first_of xs ++ merged n ops (next p f)) (same p)
-    ∙ ap (λ (ys : List Answer). first_of (g p) ++ ys) (merged_same n ops (next p f) (next p g) (λ q. ap (λ (xs : List Answer). cond (q == p) (rest_of xs) xs) (same q)))
+    ap (λ (xs : List Answer). first_of xs ++ merged n ops (next p f)) (same p (number_low (key_of op) n) (number_high (key_of op) n some))
+    ∙ ap (λ (ys : List Answer). first_of (g p) ++ ys)
+      (merged_within n ops (next p f) (next p g) some (λ q low high. ap (λ (xs : List Answer). cond (q == p) (rest_of xs) xs) (same q low high)))
 
 rest-drop : (n : ℕ) (xs : List Answer) → rest_of (drop n xs) ≡ drop (suc n) xs
 rest-drop zero [] = refl
@@ -69,13 +77,13 @@ left_next parts taken p low lt q = elim (cases_eq q p) [
 
 -- the next answer of its partition is there
 merged_some : (n : ℕ) (op : Op) (ops : List Op) (parts : List (Option (List Answer))) (taken : List ℕ) (p : ℕ) (a : Answer)
-    → p ≡ partition_number (key_of op) n → 1 ≤ p → (p - 1) < length taken → slice_get (answers_in parts p) (get_or taken (p - 1) 0) ≡ Some a
+    → 1 ≤ n → p ≡ partition_number (key_of op) n → 1 ≤ p → (p - 1) < length taken → slice_get (answers_in parts p) (get_or taken (p - 1) 0) ≡ Some a
     → merged n (op ∷ ops) (left parts taken) ≡ a ∷ merged n ops (left parts (set taken (p - 1) (get_or taken (p - 1) 0 + 1)))
 unfolding merged
-merged_some n op ops parts taken p a e low lt here =
+merged_some n op ops parts taken p a some e low lt here =
     subst (λ (k : ℕ). first_of (left parts taken k) ++ merged n ops (next k (left parts taken)) ≡ a ∷ merged n ops (left parts (set taken (p - 1) (get_or taken (p - 1) 0 + 1)))) e
     (ap (λ (xs : List Answer). xs ++ merged n ops (next p (left parts taken))) (first-drop (get_or taken (p - 1) 0) (answers_in parts p) a here)
-    ∙ ap (λ (ys : List Answer). a ∷ ys) (merged_same n ops (next p (left parts taken)) (left parts (set taken (p - 1) (get_or taken (p - 1) 0 + 1))) (left_next parts taken p low lt)))
+    ∙ ap (λ (ys : List Answer). a ∷ ys) (merged_within n ops (next p (left parts taken)) (left parts (set taken (p - 1) (get_or taken (p - 1) 0 + 1))) some (λ q _ _. left_next parts taken p low lt q)))
 
 next_none : (p : ℕ) (f : ℕ → List Answer) → f p ≡ [] → (q : ℕ) → next p f q ≡ f q
 next_none p f none q = elim (cases_eq q p) [
@@ -87,31 +95,18 @@ next_none p f none q = elim (cases_eq q p) [
 
 -- no answer of its partition is left
 merged_none : (n : ℕ) (op : Op) (ops : List Op) (parts : List (Option (List Answer))) (taken : List ℕ) (p : ℕ)
-    → p ≡ partition_number (key_of op) n → slice_get (answers_in parts p) (get_or taken (p - 1) 0) ≡ None
+    → 1 ≤ n → p ≡ partition_number (key_of op) n → slice_get (answers_in parts p) (get_or taken (p - 1) 0) ≡ None
     → merged n (op ∷ ops) (left parts taken) ≡ merged n ops (left parts taken)
 unfolding merged
-merged_none n op ops parts taken p e here =
+merged_none n op ops parts taken p some e here =
     let none : left parts taken p ≡ [] = drop-none (get_or taken (p - 1) 0) (answers_in parts p) here in
     subst (λ (k : ℕ). first_of (left parts taken k) ++ merged n ops (next k (left parts taken)) ≡ merged n ops (left parts taken)) e
     (ap (λ (xs : List Answer). first_of xs ++ merged n ops (next p (left parts taken))) none
-    ∙ merged_same n ops (next p (left parts taken)) (left parts taken) (next_none p (left parts taken) none))
+    ∙ merged_within n ops (next p (left parts taken)) (left parts taken) some (λ q _ _. next_none p (left parts taken) none q))
 
 merged_nil : (n : ℕ) (f : ℕ → List Answer) → merged n [] f ≡ []
 unfolding merged
 merged_nil n f = refl
-
-zeros : (i : ℕ) → get_or {A = ℕ} (0 ∷ 0 ∷ 0 ∷ 0 ∷ []) i 0 ≡ zero
-zeros zero = refl
-zeros (suc zero) = refl
-zeros (suc (suc zero)) = refl
-zeros (suc (suc (suc zero))) = refl
-zeros (suc (suc (suc (suc i)))) = refl
-
--- nothing was taken yet
-pub merged_start : (n : ℕ) (ops : List Op) (parts : List (Option (List Answer))) → merged n ops (answers_in parts) ≡ merged n ops (left parts (0 ∷ 0 ∷ 0 ∷ 0 ∷ []))
-merged_start n ops parts =
-    merged_same n ops (answers_in parts) (left parts (0 ∷ 0 ∷ 0 ∷ 0 ∷ []))
-    (λ q. ap (λ (k : ℕ). drop k (answers_in parts q)) (sym (zeros (q - 1))))
 
 -- one operation further
 
@@ -123,26 +118,26 @@ more n ops op i total done f so_far lt is =
 
 -- with an answer of its partition
 pub step_some : (n : ℕ) (ops : List Op) (op : Op) (i : ℕ) (total done : List Answer) (parts : List (Option (List Answer))) (taken : List ℕ) (p place : ℕ) (a : Answer)
-    → total ≡ done ++ merged n (drop i ops) (left parts taken) → i < length ops → op ≡ get_or ops i op
+    → 1 ≤ n → total ≡ done ++ merged n (drop i ops) (left parts taken) → i < length ops → op ≡ get_or ops i op
     → p ≡ partition_number (key_of op) n → 1 ≤ p → place ≡ p - 1 → place < length taken
     → slice_get (answers_in parts p) (get_or taken place 0) ≡ Some a
     → total ≡ (done ++ a ∷ []) ++ merged n (drop (i + 1) ops) (left parts (set taken place (get_or taken place 0 + 1)))
-step_some n ops op i total done parts taken p place a so_far lt is e low at within here =
+step_some n ops op i total done parts taken p place a some so_far lt is e low at within here =
     let here' : slice_get (answers_in parts p) (get_or taken (p - 1) 0) ≡ Some a = subst (λ (k : ℕ). slice_get (answers_in parts p) (get_or taken k 0) ≡ Some a) at here in
     more n ops op i total done (left parts taken) so_far lt is
-    ∙ ap (λ (ys : List Answer). done ++ ys) (merged_some n op (drop (i + 1) ops) parts taken p a e low (subst (λ (k : ℕ). k < length taken) at within) here')
+    ∙ ap (λ (ys : List Answer). done ++ ys) (merged_some n op (drop (i + 1) ops) parts taken p a some e low (subst (λ (k : ℕ). k < length taken) at within) here')
     ∙ sym (append_assoc done (a ∷ []) (merged n (drop (i + 1) ops) (left parts (set taken (p - 1) (get_or taken (p - 1) 0 + 1)))))
     ∙ ap (λ (k : ℕ). (done ++ a ∷ []) ++ merged n (drop (i + 1) ops) (left parts (set taken k (get_or taken k 0 + 1)))) (sym at)
 
 -- with none
 pub step_none : (n : ℕ) (ops : List Op) (op : Op) (i : ℕ) (total done : List Answer) (parts : List (Option (List Answer))) (taken : List ℕ) (p place : ℕ)
-    → total ≡ done ++ merged n (drop i ops) (left parts taken) → i < length ops → op ≡ get_or ops i op
+    → 1 ≤ n → total ≡ done ++ merged n (drop i ops) (left parts taken) → i < length ops → op ≡ get_or ops i op
     → p ≡ partition_number (key_of op) n → place ≡ p - 1
     → slice_get (answers_in parts p) (get_or taken place 0) ≡ None
     → total ≡ done ++ merged n (drop (i + 1) ops) (left parts taken)
-step_none n ops op i total done parts taken p place so_far lt is e at here =
+step_none n ops op i total done parts taken p place some so_far lt is e at here =
     more n ops op i total done (left parts taken) so_far lt is
-    ∙ ap (λ (ys : List Answer). done ++ ys) (merged_none n op (drop (i + 1) ops) parts taken p e (subst (λ (k : ℕ). slice_get (answers_in parts p) (get_or taken k 0) ≡ None) at here))
+    ∙ ap (λ (ys : List Answer). done ++ ys) (merged_none n op (drop (i + 1) ops) parts taken p some e (subst (λ (k : ℕ). slice_get (answers_in parts p) (get_or taken k 0) ≡ None) at here))
 
 -- after the last operation
 pub merged_end : (n : ℕ) (ops : List Op) (i : ℕ) (total done : List Answer) (f : ℕ → List Answer)

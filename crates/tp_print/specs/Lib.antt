@@ -1,2 +1,4 @@
+pub mod Recorded
 pub mod Replay
+pub mod Replies
 pub mod Report

@@ -1,6 +1,7 @@
 //! The texts that say what a run came to.
 #![tactic(auto)]
 
+mod events;
 mod journal;
 mod line;
 mod orders;

@@ -1,3 +1,10 @@
+ghost use Rattle.std.specs.Prelude.{◌≡◌, ◌++◌, ◌∷◌, codes, map, reverse, OnOk};
+ghost use Rattle.std.specs.List.{flat_map};
+ghost use Rattle.tp_print.specs.Recorded.{recorded_words};
+ghost use Rattle.tp_print.specs.Report.{crashed_words, order_line, site_word, spaced, text_line};
+ghost use Rattle.tp_rules.specs.Addresses.{site};
+ghost use Rattle.tp_topology.specs.Counting.{up_to};
+
 use crate::site::{SiteRecord, site_record};
 use crate::words::{put_site, put_stamped};
 use std::alloc::Global;
@@ -5,23 +12,42 @@ use tp_base::{NoMemory, PartitionId, Put, Rank, Site};
 use tp_rules::Entry;
 use tp_topology::Topology;
 
-fn put_record(out: &mut Put, site: Site, record: &SiteRecord) -> Result<(), NoMemory> {
-    out.bytes(b"order")?;
-    put_site(out, site)?;
-    for id in &record.executed {
-        let stamp = record.stamps.get(id).copied().unwrap_or(0);
+fn put_executed(out: &mut Put, noted: &SiteRecord) -> Result<(), NoMemory>
+    ensures { OnOk result (out.new ≡ out.old ++ flat_map spaced (recorded_words noted.now)) }
+{
+    for id in noted.executed.as_slice() {
+        let stamp = noted.stamps.get(id).copied().unwrap_or(0);
         put_stamped(out, *id, stamp)?;
     }
-    if record.crashed {
+    Ok(())
+}
+
+fn put_crashed(out: &mut Put, crashed: bool) -> Result<(), NoMemory>
+    ensures { OnOk result (out.new ≡ out.old ++ flat_map spaced (crashed_words crashed)) }
+{
+    if crashed {
         out.bytes(b" crashed")?;
     }
+    Ok(())
+}
+
+fn put_record(out: &mut Put, site: Site, noted: &SiteRecord) -> Result<(), NoMemory>
+    ensures { OnOk result (out.new ≡ out.old ++ text_line (codes "order") (site_word site ∷ recorded_words noted.now ++ crashed_words noted.now.crashed)) }
+{
+    out.bytes(b"order")?;
+    put_site(out, site)?;
+    put_executed(out, noted)?;
+    put_crashed(out, noted.crashed)?;
     out.byte(b'\n')
 }
 
 /// The line of one site.
-fn put_order(alloc: Global, out: &mut Put, entries: &[Entry], site: Site) -> Result<(), NoMemory> {
-    let record = site_record(alloc, entries, site)?;
-    put_record(out, site, &record)
+fn put_order(alloc: Global, out: &mut Put, entries: &[Entry], site: Site) -> Result<(), NoMemory>
+    ensures { OnOk result (out.new ≡ out.old ++ order_line (reverse entries.now) site) }
+{
+    let noted = site_record(alloc, entries, site)?;
+    put_record(out, site, &noted)?;
+    Ok(())
 }
 
 /// The lines of a partition's sites.
@@ -31,11 +57,13 @@ fn put_partition(
     topology: &Topology,
     entries: &[Entry],
     partition: PartitionId,
-) -> Result<(), NoMemory> {
-    for rank in 1..topology.replicas() + 1 {
+) -> Result<(), NoMemory>
+    ensures { OnOk result (out.new ≡ out.old ++ flat_map (λ k. order_line (reverse entries.now) (site partition.0 k)) (up_to topology.now.replicas)) }
+{
+    for i in 0..topology.replicas() {
         let site = Site {
             partition,
-            rank: Rank(rank),
+            rank: Rank(i + 1),
         };
         put_order(alloc, out, entries, site)?;
     }
@@ -48,9 +76,11 @@ pub fn put_orders(
     out: &mut Put,
     topology: &Topology,
     entries: &[Entry],
-) -> Result<(), NoMemory> {
-    for partition in 1..topology.partitions() + 1 {
-        put_partition(alloc, out, topology, entries, PartitionId(partition))?;
+) -> Result<(), NoMemory>
+    ensures { OnOk result (out.new ≡ out.old ++ flat_map (λ p. flat_map (λ k. order_line (reverse entries.now) (site p k)) (up_to topology.now.replicas)) (up_to topology.now.partitions)) }
+{
+    for i in 0..topology.partitions() {
+        put_partition(alloc, out, topology, entries, PartitionId(i + 1))?;
     }
     Ok(())
 }

@@ -1,8 +1,19 @@
+ghost use Rattle.std.specs.Prelude.{◌≡◌, [], ◌∷◌, ◌||◌, cond, List, Some, None, reverse, IfOk, OnOk};
+ghost use Rattle.indexmap.specs.IndexMap.{get};
+ghost use Rattle.tp_base.specs.Names.{same_id};
+ghost use Rattle.tp_base.specs.declared.names.CommandId.{CommandId};
+ghost use Rattle.tp_base.specs.declared.names.Site.{Site};
+ghost use Rattle.tp_print.specs.Recorded.{AreMore, IsRecorded, commits_sent, or_else};
+ghost use Rattle.tp_rules.specs.Journal.{is_crash};
+ghost use Rattle.tp_rules.specs.Outcome.{at_end, executed_by};
+ghost use Rattle.tp_rules.specs.declared.event.Entry.{Entry};
+
+use crate::events::{executed, is_crash, is_executor, is_process};
 use indexmap::IndexMap;
 use std::alloc::Global;
-use tp_base::{ActorName, CommandId, NoMemory, Site};
-use tp_rules::{Entry, Event, Inner, Outputs};
-use tp_wire::Body;
+use tp_base::{CommandId, NoMemory, Site};
+use tp_rules::{Entry, Outputs};
+use tp_wire::{Body, Message};
 
 /// What a site did by a journal: the commands that it executed, in order, the stamp that its process
 /// first committed each command with, and whether it crashed.
@@ -17,25 +28,38 @@ fn note_commit(
     stamps: &mut IndexMap<CommandId, u64>,
     id: CommandId,
     stamp: u64,
-) -> Result<(), NoMemory> {
+) -> Result<(), NoMemory>
+    ensures { OnOk result ((q : CommandId) → get same_id stamps.new q ≡ or_else (get same_id stamps.old q) (cond (same_id id q) (Some stamp) None)) }
+{
     if !stamps.contains_key(&id) {
         stamps.insert(id, stamp)?;
     }
     Ok(())
 }
 
-fn note_commits(stamps: &mut IndexMap<CommandId, u64>, outputs: &Outputs) -> Result<(), NoMemory> {
+fn note_message(stamps: &mut IndexMap<CommandId, u64>, message: &Message) -> Result<(), NoMemory>
+    ensures { OnOk result (AreMore stamps.old (λ s. commits_sent s (message.now ∷ [])) stamps.new) }
+{
+    match &message.body {
+        Body::MCommitted { command, stamp } => note_commit(stamps, command.id, stamp.0),
+        _ => Ok(()),
+    }
+}
+
+fn note_commits(stamps: &mut IndexMap<CommandId, u64>, outputs: &Outputs) -> Result<(), NoMemory>
+    ensures { OnOk result (AreMore stamps.old (λ s. commits_sent s outputs.now) stamps.new) }
+{
     for message in outputs.as_slice() {
-        if let Body::MCommitted { command, stamp } = &message.body {
-            note_commit(stamps, command.id, stamp.0)?;
-        }
+        note_message(stamps, message)?;
     }
     Ok(())
 }
 
 impl SiteRecord {
     /// Of an empty journal. It takes no memory.
-    fn new(alloc: Global) -> Self {
+    fn new(alloc: Global) -> Self
+        ensures { (s : Site) → IsRecorded [] s result }
+    {
         SiteRecord {
             executed: Vec::new(alloc),
             stamps: IndexMap::new(alloc),
@@ -43,27 +67,50 @@ impl SiteRecord {
         }
     }
 
-    fn note(&mut self, site: Site, entry: &Entry) -> Result<(), NoMemory> {
-        if entry.actor == ActorName::Process(site) {
-            if entry.event == Event::Inner(Inner::Crash) {
-                self.crashed = true;
-            }
-            return note_commits(&mut self.stamps, &entry.outputs);
+    fn note_process(&mut self, entry: &Entry) -> Result<(), NoMemory>
+        ensures executed { OnOk result (self.new.executed ≡ self.old.executed) }
+        ensures stamps { OnOk result (AreMore self.old.stamps (λ s. commits_sent s entry.now.outputs) self.new.stamps) }
+        ensures crashed { OnOk result (self.new.crashed ≡ (is_crash entry.now.event || self.old.crashed)) }
+    {
+        if is_crash(entry.event) {
+            self.crashed = true;
         }
-        if entry.actor == ActorName::Executor(site) {
-            if let Event::Inner(Inner::Execute(id)) = entry.event {
-                self.executed.push(id)?;
-            }
+        note_commits(&mut self.stamps, &entry.outputs)
+    }
+
+    fn note_executor(&mut self, entry: &Entry) -> Result<(), NoMemory>
+        ensures executed { OnOk result (self.new.executed.items ≡ at_end self.old.executed.items (executed_by entry.now.event)) }
+        ensures stamps { OnOk result (self.new.stamps ≡ self.old.stamps) }
+        ensures crashed { OnOk result (self.new.crashed ≡ self.old.crashed) }
+    {
+        if let Some(id) = executed(entry.event) {
+            self.executed.push(id)?;
+        }
+        Ok(())
+    }
+
+    fn note(&mut self, site: Site, entry: &Entry) -> Result<(), NoMemory>
+        ensures { OnOk result ((older : List Entry) → IsRecorded older site self.old → IsRecorded (entry.now ∷ older) site self.new) }
+    {
+        if is_process(entry.actor, site) {
+            self.note_process(entry)?;
+            return Ok(());
+        }
+        if is_executor(entry.actor, site) {
+            self.note_executor(entry)?;
+            return Ok(());
         }
         Ok(())
     }
 }
 
 /// What a site did by a journal.
-pub fn site_record(alloc: Global, entries: &[Entry], site: Site) -> Result<SiteRecord, NoMemory> {
-    let mut record = SiteRecord::new(alloc);
+pub fn site_record(alloc: Global, entries: &[Entry], site: Site) -> Result<SiteRecord, NoMemory>
+    ensures { IfOk result (λ noted. IsRecorded (reverse entries.now) site noted) }
+{
+    let mut noted = SiteRecord::new(alloc);
     for entry in entries {
-        record.note(site, entry)?;
+        noted.note(site, entry)?;
     }
-    Ok(record)
+    Ok(noted)
 }

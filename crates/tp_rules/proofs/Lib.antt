@@ -1,28 +1,41 @@
-mod RunWords
+mod FiveReplicas
+mod KeptCommand
 mod OnePut
-mod OnePutOutputs
-mod OnePutPicked
+mod OnePutAccepted
+mod OnePutIllegal
 mod OnePutLegal
 mod OnePutOutcome
-mod FiveReplicas
-mod TwoPartitions
-mod SameSheet
-mod RefusalsOfProcess
+mod OnePutOutputs
+mod OnePutPicked
+mod Operations
+mod Quorums
 mod RefusalsOfExecutor
+mod RefusalsOfProcess
 mod RefusalsOfSession
-mod OnePutIllegal
-mod KeptCommand
-pub mod Journals
-pub mod NoPlan
-pub mod Selections
+mod RunWords
+mod SameSheet
+mod TwoPartitions
+pub mod CarriedCommands
+pub mod DeliveriesLeft
 pub mod Distinct
 pub mod EachSent
 pub mod Fit
-pub mod FitSessions
 pub mod FitExecutors
-pub mod FitPromises
-pub mod FitStamps
 pub mod FitProcesses
-pub mod FitSends
+pub mod FitPromises
 pub mod FitRules
+pub mod FitSends
+pub mod FitSessions
+pub mod FitStamps
+pub mod HowMany
 pub mod InRange
+pub mod Journals
+pub mod LaterKinds
+pub mod NoPlan
+pub mod Parcels
+pub mod Provenance
+pub mod Selections
+pub mod SendsOfProcess
+pub mod Tallies
+pub mod Undelivered
+pub mod Weights

@@ -1,5 +1,5 @@
 -- Journals, the newest entry first: what was sent, and who did what. Entries and places count from 1.
-use Rattle.std.specs.Prelude.{ℕ, suc, ◌==◌, ◌&&◌, not, Bool, true, false, cond, List, [], ◌∷◌, ◌++◌, Option, Some, None, length, option_map, map, filter, unwrap_or}
+use Rattle.std.specs.Prelude.{ℕ, suc, ◌==◌, ◌&&◌, not, Bool, true, false, cond, List, [], ◌∷◌, ◌++◌, Option, Some, None, length, option_map, map, unwrap_or}
 use Rattle.std.specs.List.{list_any}
 use Rattle.tp_base.specs.Names.{same_name}
 use Rattle.tp_base.specs.declared.names.ActorName.{ActorName}
@@ -96,6 +96,6 @@ abbrev pub is_loss_of : ℕ → ℕ → Event → Bool
 is_loss_of entry place (Dropped e p) = (e == entry) && (p == place)
 is_loss_of entry place _ = false
 
--- all sites, ascending
+-- the sites of a partition, ascending
 abbrev pub ranks_of : Script → ℕ → List Site
 ranks_of script p = map (site p) (up_to script.topology.replicas)

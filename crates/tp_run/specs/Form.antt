@@ -1,9 +1,9 @@
 -- The one form of a script that is read: one partition, three replicas, one session, and one put.
-use Rattle.std.specs.Prelude.{ℕ, ◌+◌, ◌*◌, ◌/◌, ◌%◌, ◌≡◌, ◌≤◌, nat_lt, cond, List, [], ◌∷◌, ◌++◌, length, codes}
+use Rattle.std.specs.Prelude.{ℕ, ◌+◌, ◌/◌, ◌%◌, ◌≡◌, nat_lt, cond, List, [], ◌∷◌, ◌++◌, codes}
 use Rattle.tp_ops.specs.declared.command.Command.{Command}
 use Rattle.tp_ops.specs.declared.operation.Op.TheVariants.{Put}
 use Rattle.tp_script.specs.declared.script.Script.{Script}
-use Rattle.tp_wire.specs.Ranges.{IsKey, IsValue}
+use Rattle.tp_ops.specs.Limits.{IsKey, IsValue}
 
 -- the digit of a number below sixteen: 0 to 9, a to f
 abbrev pub hex_digit : ℕ → ℕ
@@ -32,17 +32,23 @@ tail = 10 ∷ line_of (codes "end")
 
 -- the text of one put
 abbrev pub form_text : List ℕ → List ℕ → List ℕ
-form_text key value = head ++ (hex_text key ++ 32 ∷ value_text value) ++ tail
+form_text key value = head ++ ((hex_text key ++ 32 ∷ value_text value) ++ tail)
 
 -- the script that the text says
 abbrev pub one_put : List ℕ → List ℕ → Script
 one_put key value =
     let command : Command = record {
-        id = record { session = record { 0 = 1 }; number = 1 }; home = record { 0 = 1 };
-        ops = Put key value ∷ [] } in
+      id = record { session = record { 0 = 1 }; number = 1 };
+      home = record { 0 = 1 };
+      ops = Put key value ∷ [];
+    } in
     record {
-        topology = record { partitions = 1; replicas = 3; failures = 1 };
-        homes = record { 0 = 1 } ∷ []; commands = command ∷ []; plan = []; picks = [] }
+      topology = record { partitions = 1; replicas = 3; failures = 1 };
+      homes = record { 0 = 1 } ∷ [];
+      commands = command ∷ [];
+      plan = [];
+      picks = [];
+    }
 
 -- a text that says a script of this form, with a key of 1 to 32 bytes and a value of 0 to 64
 abbrev pub IsFormOf : List ℕ → Script → Type 0

@@ -1,0 +1,4 @@
+pub mod Accessed
+pub mod Tables
+pub mod Counts
+pub mod Steps

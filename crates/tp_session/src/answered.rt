@@ -1,4 +1,7 @@
-ghost use Rattle.std.specs.Prelude.{◌≤◌};
+ghost use Rattle.std.specs.Prelude.{◌≡◌, ◌≤◌, ◌&&◌, Some, IfOk, is_none, take};
+ghost use Rattle.tp_ops.specs.Parts.{is_accessed, kept_in};
+ghost use Rattle.tp_rules.specs.Addresses.{is_site_of};
+ghost use Rattle.tp_rules.specs.Session.{is_awaited, is_whole, merged_reply};
 
 use std::alloc::Global;
 use tp_base::{NoMemory, PartitionId, Site};
@@ -6,19 +9,33 @@ use tp_ops::{Answers, Command, Parts, accesses, count_on, merge};
 use tp_topology::Topology;
 
 /// Whether a site is of the store's shape.
-pub fn is_site_of(topology: &Topology, site: Site) -> bool {
+pub fn is_site_of(topology: &Topology, site: Site) -> bool
+    ensures { result ≡ is_site_of topology.now site }
+{
     1 <= site.partition.0
         && site.partition.0 <= topology.partitions()
         && 1 <= site.rank.0
         && site.rank.0 <= topology.replicas()
 }
 
+/// Whether a command accesses a partition whose answers are not kept.
+fn lacks(partitions: u8, parts: &Parts, command: &Command, p: PartitionId) -> bool
+    requires some { 1 ≤ partitions }
+    requires few { partitions ≤ 4 }
+    requires from { 1 ≤ p.0 }
+    requires to { p.0 ≤ 4 }
+    ensures { result ≡ (is_accessed partitions command.now p.0 && is_none (kept_in parts.now p.0)) }
+{
+    accesses(command, partitions, p) && parts.get(p).is_none()
+}
+
 /// Whether the answers of all partitions that a command accesses are kept.
-pub fn is_whole(topology: &Topology, parts: &Parts, command: &Command) -> bool {
+pub fn is_whole(topology: &Topology, parts: &Parts, command: &Command) -> bool
+    ensures { result ≡ is_whole topology.now (take topology.now.partitions parts.now) (Some command.now) }
+{
     let partitions = topology.partitions();
-    for p in 1..partitions + 1 {
-        let partition = PartitionId(p);
-        if accesses(command, partitions, partition) && parts.get(partition).is_none() {
+    for i in 0..partitions {
+        if lacks(partitions, parts, command, PartitionId(i + 1)) {
             return false;
         }
     }
@@ -34,7 +51,8 @@ pub fn is_awaited(
     command: &Command,
 ) -> bool
     requires from { 1 ≤ q.0 }
-    requires to { q.0 ≤ 4 }
+    requires to { q.0 ≤ topology.now.partitions }
+    ensures { result ≡ is_awaited topology.now q.0 answers.now (take topology.now.partitions parts.now) (Some command.now) }
 {
     let partitions = topology.partitions();
     accesses(command, partitions, q)
@@ -48,7 +66,9 @@ pub fn reply_of(
     topology: &Topology,
     command: &Command,
     parts: &Parts,
-) -> Result<Option<Answers>, NoMemory> {
+) -> Result<Option<Answers>, NoMemory>
+    ensures { IfOk result (λ reply. reply ≡ merged_reply topology.now (take topology.now.partitions parts.now) (Some command.now)) }
+{
     if !is_whole(topology, parts, command) {
         return Ok(None);
     }

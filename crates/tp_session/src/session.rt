@@ -1,7 +1,10 @@
-ghost use Rattle.std.specs.Prelude.{◌<◌, ◌≤◌, ◌^◌, length};
+ghost use Rattle.std.specs.Prelude.{List, ◌≡◌, ◌<◌, ◌≤◌, ◌^◌, ◌+◌, ◌-◌, ◌∷◌, ◌++◌, ◌==◌, ◌&&◌, [], None, cond, false, nat_le, length, replicate, slice_set, vec_len, IfOk, OnOk, OnErr};
+ghost use Rattle.std.specs.Option.{option_copied};
+ghost use Rattle.tp_ops.specs.Parts.{kept_in, with_part};
+ghost use Rattle.tp_rules.specs.Session.{SessionState, is_awaited, is_whole, on_message, on_result, on_submit, submissions, reply, state_after};
+ghost use Rattle.tp_rules.specs.Tables.{nth};
+ghost use Rattle.tp_wire.specs.Ranges.{IsInRange};
 
-use crate::answered::{is_awaited, is_site_of, is_whole, reply_of};
-use crate::submissions::submissions;
 use std::alloc::Global;
 use tp_base::{ActorName, CommandId, Duplicate, NoMemory, PartitionId, Rank, Sequence, SessionId};
 use tp_ops::{Answers, Command, Parts};
@@ -10,8 +13,11 @@ use tp_script::Commands;
 use tp_topology::Topology;
 use tp_wire::{Body, Message};
 
+use crate::answered::{is_awaited, is_site_of, is_whole, reply_of};
+use crate::submissions::submissions;
+
 /// A client session, with its own commands in order. It submits its next command while fewer than
-/// its window of them are open.
+/// its window of them are unanswered.
 #[derive(Debug, Drop)]
 pub struct Session {
     alloc: Global,
@@ -21,12 +27,17 @@ pub struct Session {
     window: usize,
     commands: Commands,
     kept: Vec<Parts>,
-    open: usize,
+    unanswered: usize,
     spent: bool,
     ghost numbered: { length commands < 2 ^ 32 },
+    ghost counted: { unanswered ≤ vec_len kept },
 }
 
 impl Session {
+    ghost use Rattle.tp_rules.specs.Acts.{Act, SessionOf};
+    ghost use Rattle.tp_session.specs.States.{IsState, Stands, client, identity, parts_at, table};
+
+    /// A session with its own commands in order, that has submitted none. It takes no memory.
     pub fn new(
         alloc: Global,
         id: SessionId,
@@ -34,8 +45,13 @@ impl Session {
         topology: &Topology,
         commands: Commands,
     ) -> Session
-        requires { length commands < 2 ^ 32 }
+        requires few { length commands < 2 ^ 32 }
+        ensures identity { identity result ≡ SessionOf topology.now (record { session = id; home = home.0; window = 1; commands = commands }) }
+        ensures unspent { result.spent ≡ false }
+        ensures stands { Stands result [] }
     {
+        let partitions = topology.partitions();
+        prove!(partitions <= 4);
         Session {
             alloc,
             id,
@@ -44,13 +60,15 @@ impl Session {
             window: 1,
             commands,
             kept: Vec::new(alloc),
-            open: 0,
+            unanswered: 0,
             spent: false,
         }
     }
 
     /// The reply to the command with this number, None where it is not answered.
-    pub fn reply(&self, n: u32) -> Result<Option<Answers>, NoMemory> {
+    pub fn reply(&self, n: u32) -> Result<Option<Answers>, NoMemory>
+        ensures { IfOk result (λ answers. (acts : List Act) → Stands self.now acts → answers ≡ reply self.now.topology (client self.now) (state_after self.now.topology (client self.now) acts) n) }
+    {
         let Some(command) = self.command(n) else {
             return Ok(None);
         };
@@ -60,21 +78,27 @@ impl Session {
         }
     }
 
-    fn command(&self, n: u32) -> Option<&Command> {
+    fn command(&self, n: u32) -> Option<&Command>
+        ensures { option_copied result ≡ nth self.now.commands n }
+    {
         if n == 0 {
             return None;
         }
         self.commands.get(n as usize - 1)
     }
 
-    fn parts(&self, n: u32) -> Option<&Parts> {
+    fn parts(&self, n: u32) -> Option<&Parts>
+        ensures { option_copied result ≡ nth self.now.kept.items n }
+    {
         if n == 0 {
             return None;
         }
         self.kept.get(n as usize - 1)
     }
 
-    fn is_answered(&self, n: u32) -> bool {
+    fn is_answered(&self, n: u32) -> bool
+        ensures { result ≡ is_whole self.now.topology (table self.now n) (nth self.now.commands n) }
+    {
         match (self.command(n), self.parts(n)) {
             (Some(command), Some(parts)) => is_whole(&self.topology, parts, command),
             (Some(command), None) => is_whole(&self.topology, &Parts::new(), command),
@@ -82,23 +106,40 @@ impl Session {
         }
     }
 
-    fn submit(&mut self, n: u32) -> Result<Outputs, NoMemory> {
+    /// One more command is submitted.
+    fn open(&mut self, n: u32) -> Result<(), NoMemory>
+        ensures identity { OnOk result (identity self.new ≡ identity self.old) }
+        ensures kept { OnOk result (self.new.kept.items ≡ self.old.kept.items ++ replicate 4 None ∷ []) }
+        ensures unanswered { OnOk result (self.new.unanswered ≡ cond (is_whole self.old.topology (table self.new n) (nth self.old.commands n)) self.old.unanswered (self.old.unanswered + 1)) }
+        ensures same { OnErr result (identity self.new ≡ identity self.old) }
+    {
+        self.kept.push(Parts::new())?;
+        if !self.is_answered(n) {
+            self.unanswered += 1;
+        }
+        Ok(())
+    }
+
+    fn submit(&mut self, n: u32) -> Result<Outputs, NoMemory>
+        requires next { n ≡ length self.old.kept.items + 1 }
+        ensures identity { identity self.new ≡ identity self.old }
+        ensures outputs { IfOk result (λ outputs. outputs ≡ submissions self.old.topology (client self.old) (nth self.old.commands n)) }
+        ensures state { OnOk result ((state : SessionState) → IsState self.old state → IsState self.new (on_submit self.old.topology (client self.old) n state).0) }
+    {
         let outputs = match self.command(n) {
             Some(command) => {
                 submissions(self.alloc, &self.topology, self.id, self.home, command)?
             }
             None => Sequence::new(self.alloc),
         };
-        self.kept.push(Parts::new())?;
-        if !self.is_answered(n) {
-            self.open = self.open.saturating_add(1);
-        }
+        self.open(n)?;
         Ok(outputs)
     }
 
     fn awaits(&self, id: CommandId, q: PartitionId, answers: &Answers) -> bool
         requires from { 1 ≤ q.0 }
-        requires to { q.0 ≤ 4 }
+        requires to { q.0 ≤ self.now.topology.partitions }
+        ensures { result ≡ ((id.session.0 == self.now.id.0) && nat_le id.number (length self.now.kept.items) && is_awaited self.now.topology q.0 answers.now (table self.now id.number) (nth self.now.commands id.number)) }
     {
         if id.session != self.id {
             return false;
@@ -109,20 +150,47 @@ impl Session {
         }
     }
 
+    /// Keeps the answers of a partition, that are the first.
     fn keep(&mut self, n: u32, q: PartitionId, answers: Answers)
+        requires low { 1 ≤ n }
+        requires high { n ≤ length self.old.kept.items }
         requires from { 1 ≤ q.0 }
         requires to { q.0 ≤ 4 }
+        requires first { kept_in (parts_at self.old.kept.items n) q.0 ≡ None }
+        ensures identity { identity self.new ≡ identity self.old }
+        ensures kept { self.new.kept.items ≡ slice_set self.old.kept.items (n - 1) (with_part (parts_at self.old.kept.items n) q.0 answers) }
+        ensures unanswered { self.new.unanswered ≡ cond (is_whole self.old.topology (table self.new n) (nth self.old.commands n)) (self.old.unanswered - 1) self.old.unanswered }
     {
-        if n == 0 || self.kept.len() < n as usize {
-            return;
-        }
         self.kept[n as usize - 1].put(q, answers);
         if self.is_answered(n) {
-            self.open = self.open.saturating_sub(1);
+            self.unanswered = self.unanswered.saturating_sub(1);
         }
     }
 
-    fn take(&mut self, message: &Message) -> Result<(), NoMemory> {
+    fn receive(
+        &mut self,
+        id: CommandId,
+        q: PartitionId,
+        answers: &Answers,
+    ) -> Result<(), NoMemory>
+        requires from { 1 ≤ q.0 }
+        requires to { q.0 ≤ self.old.topology.partitions }
+        requires few { q.0 ≤ 4 }
+        ensures identity { identity self.new ≡ identity self.old }
+        ensures state { OnOk result ((state : SessionState) → IsState self.old state → IsState self.new (on_result self.old.topology (client self.old) id q.0 answers.now state).0) }
+    {
+        if self.awaits(id, q, answers) {
+            let answers = answers.copy()?;
+            self.keep(id.number, q, answers);
+        }
+        Ok(())
+    }
+
+    fn take(&mut self, message: &Message) -> Result<(), NoMemory>
+        requires range { IsInRange message.now }
+        ensures identity { identity self.new ≡ identity self.old }
+        ensures state { OnOk result ((state : SessionState) → IsState self.old state → IsState self.new (on_message self.old.topology (client self.old) message.now state).0) }
+    {
         if message.to != ActorName::Session(self.id) {
             return Ok(());
         }
@@ -140,10 +208,8 @@ impl Session {
         else {
             return Ok(());
         };
-        let within = 1 <= partition.0 && partition.0 <= self.topology.partitions();
-        if within && self.awaits(*id, *partition, answers) {
-            let answers = answers.copy()?;
-            self.keep(id.number, *partition, answers);
+        if 1 <= partition.0 && partition.0 <= self.topology.partitions() {
+            return self.receive(*id, *partition, answers);
         }
         Ok(())
     }
@@ -186,7 +252,7 @@ impl Actor for Session {
 
     fn next_inner(&self) -> Option<Inner> {
         let submitted = self.kept.len();
-        if submitted < self.commands.len() && self.open < self.window {
+        if submitted < self.commands.len() && self.unanswered < self.window {
             return Some(Inner::Submit(submitted as u32 + 1));
         }
         None

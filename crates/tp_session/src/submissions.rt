@@ -1,4 +1,5 @@
-ghost use Rattle.std.specs.Prelude.{◌≡◌, Some, IfOk};
+ghost use Rattle.std.specs.Prelude.{◌≡◌, IfOk, map};
+ghost use Rattle.tp_rules.specs.Addresses.{accessed, message, site, to_each};
 
 use std::alloc::Global;
 use tp_base::{ActorName, Duplicate, NoMemory, PartitionId, Rank, Sequence, SessionId, Site};
@@ -12,7 +13,9 @@ fn submission(
     home: Rank,
     p: PartitionId,
     command: &Command,
-) -> Result<Message, NoMemory> {
+) -> Result<Message, NoMemory>
+    ensures { IfOk result (λ m. m ≡ message (ActorName.Session id) (ActorName.Process (site p.0 home.0)) (Body.MSubmit command.now)) }
+{
     let site = Site {
         partition: p,
         rank: home,
@@ -33,13 +36,15 @@ pub fn submissions(
     id: SessionId,
     home: Rank,
     command: &Command,
-) -> Result<Outputs, NoMemory> {
+) -> Result<Outputs, NoMemory>
+    ensures { IfOk result (λ outputs. outputs ≡ to_each (ActorName.Session id) (map (λ p. ActorName.Process (site p home.0)) (accessed topology.now command.now)) (Body.MSubmit command.now)) }
+{
     let mut outputs = Sequence::new(alloc);
     let partitions = topology.partitions();
-    for p in 1..partitions + 1 {
-        let partition = PartitionId(p);
-        if accesses(command, partitions, partition) {
-            outputs.add(submission(id, home, partition, command)?)?;
+    for i in 0..partitions {
+        let p = PartitionId(i + 1);
+        if accesses(command, partitions, p) {
+            outputs.add(submission(id, home, p, command)?)?;
         }
     }
     Ok(outputs)

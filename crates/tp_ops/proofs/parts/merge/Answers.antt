@@ -21,7 +21,7 @@ loop-op-preserved c =
           let a = w.in-Some.answer.now in
           let here : slice_get (answers_in c.args.parts.now p) (get_or c.loop-op.taken (c.from-place.result - 1) 0) ≡ Some a = sym c.answer.ensures ∙ ap option_copied w.in-Some.is in
           let added : c.loop-op.merged ++ a ∷ [] ≡ c.match-answer.merged = sym (w.merged-is ∙ w.in_ok-add.ensures.added ∙ ap (λ (x : Answer). c.loop-op.merged ++ x ∷ []) w.in_ok-copy.ensures) in
-          let step = step_some c.args.partitions c.as_slice-op-items.result.now c.op-item.result c.loop-op.op-index _ c.loop-op.merged c.args.parts.now c.loop-op.taken p (c.from-place.result - 1) a c.loop-op.invariant.so_far c.loop-op-test.true c.op-item.is e low at within here in
+          let step = step_some c.args.partitions c.as_slice-op-items.result.now c.op-item.result c.loop-op.op-index _ c.loop-op.merged c.args.parts.now c.loop-op.taken p (c.from-place.result - 1) a c.requires.some c.loop-op.invariant.so_far c.loop-op-test.true c.op-item.is e low at within here in
           record {
             places = ap length w.taken-is ∙ length-set _ _ _ ∙ c.loop-op.invariant.places;
             bound = λ k. subst (λ (taken : List ℕ). get_or taken k 0 ≤ c.loop-op.op-index + 1) (sym w.taken-is) (bound_more c.loop-op.taken (c.from-place.result - 1) c.loop-op.op-index k c.loop-op.invariant.bound within);
@@ -32,7 +32,7 @@ loop-op-preserved c =
           record {
             places = ap length w.taken-is ∙ c.loop-op.invariant.places;
             bound = λ k. subst (λ (taken : List ℕ). get_or taken k 0 ≤ c.loop-op.op-index + 1) (sym w.taken-is) (omega (arith, c.loop-op.invariant.bound k));
-            so_far = rw (w.taken-is, w.merged-is) (step_none c.args.partitions c.as_slice-op-items.result.now c.op-item.result c.loop-op.op-index _ c.loop-op.merged c.args.parts.now c.loop-op.taken p (c.from-place.result - 1) c.loop-op.invariant.so_far c.loop-op-test.true c.op-item.is e at here);
+            so_far = rw (w.taken-is, w.merged-is) (step_none c.args.partitions c.as_slice-op-items.result.now c.op-item.result c.loop-op.op-index _ c.loop-op.merged c.args.parts.now c.loop-op.taken p (c.from-place.result - 1) c.requires.some c.loop-op.invariant.so_far c.loop-op-test.true c.op-item.is e at here);
           }
     ]
 

@@ -1,0 +1,79 @@
+-- The lines of a report, session by session and site by site.
+use Rattle.std.proofs.Common.{◌≡◌, ℕ, ◌+◌, ◌≤◌, List, [], ◌∷◌, ◌++◌, length, append_assoc, refl, sym, ap, ◌∙◌, arith}
+use Rattle.std.specs.List.{flat_map}
+use Rattle.std.specs.Fmt.{decimal}
+use Rattle.std.specs.Prelude.{codes, filter, is_none, map, reverse}
+use Rattle.std.proofs.lemmas.List.{append-nil}
+use Rattle.std.proofs.lemmas.List.Folds.{flat_map-map}
+use Rattle.tp_base.specs.declared.names.CommandId.{CommandId}
+use Rattle.tp_print.proofs.Numbered.{counted_few, filter_flat, flat_map_flat, length-filter, length-filter_map, length-flat_map-le, length-flat_map-same, length-up_to, of_session}
+use Rattle.tp_ops.specs.declared.command.Command.{Command}
+use Rattle.tp_print.specs.Replay.{IsClient}
+use Rattle.tp_print.specs.Replies.{lines_of, numbers_of, open_of}
+use Rattle.tp_print.specs.Report.{id_of, id_word, ids_of, open_count, order_line, order_lines, reply_line, reply_lines, report_text, spaced, text_line}
+use Rattle.tp_rules.specs.Addresses.{site}
+use Rattle.tp_rules.specs.Journal.{client_of, commands_of, ranks_of}
+use Rattle.tp_rules.specs.Outcome.{line, reply_to}
+use Rattle.tp_rules.specs.declared.event.Entry.{Entry}
+use Rattle.tp_script.specs.declared.script.Script.{Script}
+use Rattle.tp_topology.specs.Counting.{up_to}
+
+pub reply_lines_are : (script : Script) (older : List Entry) → flat_map (lines_of script older) (up_to (length script.homes)) ≡ reply_lines script older
+reply_lines_are script older =
+    let text : CommandId → List ℕ = λ id. reply_line id (reply_to script older id) in
+    sym (flat_map_flat text (ids_of script) (up_to (length script.homes))
+    ∙ (λ j. flat_map (λ s. flat_map-map text (id_of s) (numbers_of script s) j) (up_to (length script.homes))))
+
+pub open_count_is : (script : Script) (older : List Entry) → length (flat_map (open_of script older) (up_to (length script.homes))) ≡ open_count script older
+open_count_is script older =
+    sym (ap length (filter_flat (λ (id : CommandId). is_none (reply_to script older id)) (ids_of script) (up_to (length script.homes)))
+    ∙ length-flat_map-same (λ s. filter (λ id. is_none (reply_to script older id)) (ids_of script s)) (open_of script older) (up_to (length script.homes))
+    (λ s. length-filter_map (λ (id : CommandId). is_none (reply_to script older id)) (id_of s) (numbers_of script s)))
+
+pub order_lines_are : (script : Script) (older : List Entry)
+    → flat_map (λ p. flat_map (λ k. order_line older (site p k)) (up_to script.topology.replicas)) (up_to script.topology.partitions) ≡ order_lines script older
+order_lines_are script older =
+    sym (flat_map_flat (order_line older) (ranks_of script) (up_to script.topology.partitions)
+    ∙ (λ j. flat_map (λ p. flat_map-map (order_line older) (site p) (up_to script.topology.replicas) j) (up_to script.topology.partitions)))
+
+-- no more commands are open than there are
+pub open_few : (script : Script) (older : List Entry) (k : ℕ) → length (flat_map (open_of script older) (up_to k)) ≤ length script.commands
+open_few script older k =
+    omega (arith, counted_few script.commands k, length-flat_map-le (open_of script older) (of_session script.commands) (up_to k) (λ s. few s))
+  where
+    few : (s : ℕ) → length (open_of script older s) ≤ length (of_session script.commands s)
+    few s = omega (arith, length-filter (λ (n : ℕ). is_none (reply_to script older (id_of s n))) (numbers_of script s), length-up_to (length (of_session script.commands s)))
+
+-- the session of a number, as the script makes it
+pub client_is : (script : Script) (s : ℕ) (cs : List Command) → cs ≡ commands_of script (record { 0 = s }) → IsClient s cs (client_of script (record { 0 = s }))
+client_is script s cs e = record { session = refl; commands = sym e }
+
+last_lines : (before first word last : List ℕ) → ((before ++ first) ++ word) ++ 10 ∷ last ≡ (before ++ ((first ++ (word ++ [])) ++ 10 ∷ [])) ++ last
+last_lines before first word last = simp (append_assoc, append-nil)
+
+-- the report, as it is written
+pub report_is : (script : Script) (journal : List Entry) (n : ℕ) (a b c d e f g : List ℕ) → n ≡ length (flat_map (open_of script (reverse journal)) (up_to (length script.homes)))
+    → a ≡ text_line (codes "report") (codes "1" ∷ [])
+    → b ≡ a ++ flat_map (lines_of script (reverse journal)) (up_to (length script.homes))
+    → c ≡ b ++ flat_map (λ p. flat_map (λ k. order_line (reverse journal) (site p k)) (up_to script.topology.replicas)) (up_to script.topology.partitions)
+    → d ≡ c ++ text_line (codes "line") (map id_word (line (reverse journal)))
+    → e ≡ d ++ codes "open" → f ≡ e ++ spaced (decimal n) → g ≡ f ++ 10 ∷ text_line (codes "end") [] → g ≡ report_text script journal
+unfolding report_text
+report_is script journal n a b c d e f g open_is at_a at_b at_c at_d at_e at_f at_g =
+    at_g ∙ ap (λ (l : List ℕ). l ++ 10 ∷ text_line (codes "end") [])
+    (at_f ∙ ap (λ (l : List ℕ). l ++ spaced (decimal n)) (at_e ∙ ap (λ (l : List ℕ). l ++ codes "open") start))
+    ∙ ap (λ (k : ℕ). ((front ++ codes "open") ++ spaced (decimal k)) ++ 10 ∷ text_line (codes "end") []) (open_is ∙ open_count_is script (reverse journal))
+    ∙ last_lines front (codes "open") (spaced (decimal (open_count script (reverse journal)))) (text_line (codes "end") [])
+  where
+    front : List ℕ
+    front =
+        text_line (codes "report") (codes "1" ∷ []) ++ reply_lines script (reverse journal) ++ order_lines script (reverse journal)
+        ++ text_line (codes "line") (map id_word (line (reverse journal)))
+
+    start : d ≡ front
+    start =
+        at_d ∙ ap (λ (l : List ℕ). l ++ text_line (codes "line") (map id_word (line (reverse journal))))
+        (at_c ∙ ap (λ (l : List ℕ). l ++ flat_map (λ p. flat_map (λ k. order_line (reverse journal) (site p k)) (up_to script.topology.replicas)) (up_to script.topology.partitions))
+        (at_b ∙ ap (λ (l : List ℕ). l ++ flat_map (lines_of script (reverse journal)) (up_to (length script.homes))) at_a
+        ∙ ap (λ (l : List ℕ). text_line (codes "report") (codes "1" ∷ []) ++ l) (reply_lines_are script (reverse journal)))
+        ∙ ap (λ (l : List ℕ). (text_line (codes "report") (codes "1" ∷ []) ++ reply_lines script (reverse journal)) ++ l) (order_lines_are script (reverse journal)))

@@ -1,0 +1,45 @@
+-- What the blank sheet says.
+use Rattle.std.proofs.Common.{◌≡◌, ℕ, zero, suc, Bool, true, false, Option, None, replicate, refl, sym, ap, ◌∙◌}
+use Rattle.std.specs.Prelude.{slice_get, cond, ◌&&◌}
+use Rattle.tp_base.specs.declared.names.Site.{Site}
+use Rattle.tp_quorum.specs.declared.choice.FastChoice.{FastChoice}
+use Rattle.tp_rules.specs.Addresses.{is_between}
+use Rattle.tp_rules.specs.Sheet.{blank, is_fresh}
+use Rattle.tp_rules.specs.Tables.{kept_at, flat}
+use Rattle.tp_sheet.specs.SiteSheet.{SiteSheet, blank_at, takes_acknowledgement, choice_by, with_acknowledgement, final_of}
+use Rattle.tp_topology.specs.Shape.{Shape}
+
+empty_place : (n i : ℕ) → flat (slice_get (replicate n (let none : Option ℕ = None in none)) i) ≡ None
+empty_place zero i = refl
+empty_place (suc n) zero = refl
+empty_place (suc n) (suc i) = empty_place n i
+
+empty_table : (n k : ℕ) → kept_at (replicate n (let none : Option ℕ = None in none)) k ≡ None
+empty_table n zero = refl
+empty_table n (suc i) = empty_place n i
+
+never : (b : Bool) → (b && false) ≡ false
+never true = refl
+never false = refl
+
+pub blank-is_fresh : (shape : Shape) (p : ℕ) → is_fresh p (blank shape) ≡ true
+unfolding blank
+blank-is_fresh shape p = rw (empty_table shape.partitions p)
+
+pub blank-command : (shape : Shape) → (blank shape).command ≡ None
+unfolding blank
+blank-command shape = refl
+
+pub blank-final : (shape : Shape) (site : Site) → final_of (blank_at shape site) ≡ None
+unfolding blank
+blank-final shape site = refl
+
+blank-takes : (shape : Shape) (site : Site) (rank : ℕ) → takes_acknowledgement rank (blank_at shape site) ≡ false
+unfolding blank
+blank-takes shape site rank = never (is_between rank shape.replicas)
+
+pub blank-choice : (shape : Shape) (site : Site) (rank t : ℕ) → choice_by rank t (blank_at shape site) ≡ None
+blank-choice shape site rank t = rw (blank-takes shape site rank) refl
+
+pub blank-acknowledges : (shape : Shape) (site : Site) (rank t : ℕ) → with_acknowledgement rank t (blank_at shape site) ≡ blank_at shape site
+blank-acknowledges shape site rank t = rw (blank-takes shape site rank) refl

@@ -1,0 +1,81 @@
+use crate::addresses::{other_processes, processes_of, send_each};
+use crate::process::Process;
+use crate::sheets::{acknowledge, command_at};
+use tp_base::{ActorName, CommandId, Duplicate, NoMemory, Rank, Sequence, Stamp};
+use tp_quorum::FastChoice;
+use tp_rules::Outputs;
+use tp_wire::Body;
+
+impl Process {
+    /// A member of the fast quorum tells its proposal.
+    pub(crate) fn on_propose_ack(
+        &mut self,
+        from: ActorName,
+        id: CommandId,
+        stamp: Stamp,
+    ) -> Result<Outputs, NoMemory> {
+        match from {
+            ActorName::Process(site) => self.count_proposal(site.rank, id, stamp),
+            ActorName::Executor(_) | ActorName::Session(_) => Ok(self.nothing()),
+        }
+    }
+
+    /// Counts a rank's proposal: with the last of the fast quorum, the choice is decided or put to
+    /// the vote.
+    fn count_proposal(
+        &mut self,
+        rank: Rank,
+        id: CommandId,
+        stamp: Stamp,
+    ) -> Result<Outputs, NoMemory> {
+        match acknowledge(&mut self.sheets, &self.place, id, rank, stamp) {
+            Some(FastChoice::Fast(top)) => self.decide(id, top),
+            Some(FastChoice::Slow(top)) => self.put_to_vote(id, top),
+            None => Ok(self.nothing()),
+        }
+    }
+
+    /// Tells the partition's stamp to all other processes of the command, and learns it here.
+    fn decide(&mut self, id: CommandId, stamp: Stamp) -> Result<Outputs, NoMemory> {
+        let mut outputs = Sequence::new(self.alloc);
+        self.tell_commit(&mut outputs, id, stamp)?;
+        self.learn(&mut outputs, id, self.place.site.partition, stamp)?;
+        Ok(outputs)
+    }
+
+    fn tell_commit(
+        &self,
+        outputs: &mut Outputs,
+        id: CommandId,
+        stamp: Stamp,
+    ) -> Result<(), NoMemory> {
+        match command_at(&self.sheets, &self.place, id) {
+            Some(command) => {
+                let names = other_processes(self.alloc, &self.place, command)?;
+                let body = Body::MCommit {
+                    command: command.copy()?,
+                    partition: self.place.site.partition,
+                    stamp,
+                };
+                send_each(outputs, self.place.name(), names.as_slice(), &body)
+            }
+            None => Ok(()),
+        }
+    }
+
+    /// Puts a stamp to the vote of all ranks, at the own rank as ballot.
+    fn put_to_vote(&self, id: CommandId, stamp: Stamp) -> Result<Outputs, NoMemory> {
+        let mut outputs = Sequence::new(self.alloc);
+        if let Some(command) = command_at(&self.sheets, &self.place, id) {
+            let place = &self.place;
+            let names = processes_of(self.alloc, &place.topology, place.site.partition)?;
+            let body = Body::MConsensus {
+                command: command.copy()?,
+                stamp,
+                ballot: u64::from(place.site.rank.0),
+            };
+            send_each(&mut outputs, place.name(), names.as_slice(), &body)?;
+        }
+        Ok(outputs)
+    }
+}

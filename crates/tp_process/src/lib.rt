@@ -1,0 +1,16 @@
+//! The process of a site: it proposes stamps for commands, decides them, and announces what it
+//! promised.
+#![tactic(auto)]
+
+mod acknowledgement;
+mod addresses;
+mod announcement;
+mod commit;
+mod place;
+mod process;
+mod sheets;
+mod submission;
+#[cfg(test)]
+mod tests;
+
+pub use process::Process;

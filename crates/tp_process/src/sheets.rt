@@ -1,0 +1,145 @@
+ghost use Rattle.std.specs.Prelude.{◌≡◌, ◌≤◌, OnOk, IfOk};
+ghost use Rattle.std.specs.Option.{option_copied, option_map};
+ghost use Rattle.tp_process.specs.Sheets.{sheet_at, OpensSheet, ChangesSheet};
+ghost use Rattle.tp_rules.specs.Sheet.{is_fresh as is_fresh_in, kept, with_proposal};
+ghost use Rattle.tp_sheet.specs.SiteSheet.{with_sheet, with_own, choice_by, with_acknowledgement, with_known, final_of, final_by};
+
+use crate::place::Place;
+use indexmap::IndexMap;
+use tp_base::{CommandId, Made, NoMemory, PartitionId, Rank, Stamp};
+use tp_ops::Command;
+use tp_quorum::FastChoice;
+use tp_sheet::Sheet;
+
+/// The sheet of each command that the process has heard of, in the order of first sight.
+pub(crate) type Sheets = IndexMap<CommandId, Sheet>;
+
+/// Whether a command is fresh.
+pub(crate) fn is_fresh(sheets: &Sheets, place: &Place, id: CommandId) -> bool
+    ensures { let kept = sheet_at place.now.topology place.now.site sheets.now id in result ≡ is_fresh_in kept.site.partition.0 kept.sheet }
+{
+    match sheets.get(&id) {
+        Some(sheet) => sheet.is_fresh(),
+        None => true,
+    }
+}
+
+/// The command that is kept in a sheet.
+pub(crate) fn command_at<'a>(
+    sheets: &'a Sheets,
+    place: &Place,
+    id: CommandId,
+) -> Option<&'a Command>
+    ensures { option_copied result ≡ (sheet_at place.now.topology place.now.site sheets.now id).sheet.command }
+{
+    match sheets.get(&id) {
+        Some(sheet) => sheet.command(),
+        None => None,
+    }
+}
+
+/// The final stamp of a command.
+pub(crate) fn final_stamp(sheets: &Sheets, place: &Place, id: CommandId) -> Option<Stamp>
+    ensures { option_map (λ t. t.0) result ≡ final_of (sheet_at place.now.topology place.now.site sheets.now id) }
+{
+    match sheets.get(&id) {
+        Some(sheet) => sheet.final_stamp(),
+        None => None,
+    }
+}
+
+/// Opens a command's sheet, where it has none.
+fn open(sheets: &mut Sheets, place: &Place, id: CommandId) -> Result<(), NoMemory>
+    ensures { OnOk result (OpensSheet place.now.topology place.now.site sheets.old sheets.new id) }
+{
+    if !sheets.contains_key(&id) {
+        sheets.insert(id, Sheet::new(&place.topology, place.site))?;
+    }
+    Ok(())
+}
+
+/// Keeps a command in its sheet.
+pub(crate) fn keep(sheets: &mut Sheets, place: &Place, command: Command) -> Result<(), NoMemory>
+    ensures { OnOk result (let old = sheet_at place.now.topology place.now.site sheets.old command.id in ChangesSheet place.now.topology place.now.site sheets.old sheets.new command.id (with_sheet (kept command old.sheet) old)) }
+{
+    let id = command.id;
+    open(sheets, place, id)?;
+    if let Some(sheet) = sheets.get_mut(&id) {
+        sheet.keep(command);
+    }
+    Ok(())
+}
+
+/// Keeps a command in its sheet, with the own proposal.
+pub(crate) fn propose(
+    sheets: &mut Sheets,
+    place: &Place,
+    command: Command,
+    stamp: Stamp,
+) -> Result<(), NoMemory>
+    ensures { OnOk result (let old = sheet_at place.now.topology place.now.site sheets.old command.id in ChangesSheet place.now.topology place.now.site sheets.old sheets.new command.id (with_sheet (with_proposal stamp.0 Made.Proposal (kept command old.sheet)) old)) }
+{
+    let id = command.id;
+    open(sheets, place, id)?;
+    if let Some(sheet) = sheets.get_mut(&id) {
+        sheet.keep(command);
+        sheet.propose(stamp, Made::Proposal);
+    }
+    Ok(())
+}
+
+/// Keeps a command in its sheet, with the own proposal, acknowledged at its home.
+pub(crate) fn submit(
+    sheets: &mut Sheets,
+    place: &Place,
+    command: Command,
+    stamp: Stamp,
+) -> Result<(), NoMemory>
+    ensures { OnOk result (let old = sheet_at place.now.topology place.now.site sheets.old command.id in ChangesSheet place.now.topology place.now.site sheets.old sheets.new command.id (with_own stamp.0 (with_sheet (with_proposal stamp.0 Made.Proposal (kept command old.sheet)) old))) }
+{
+    let id = command.id;
+    open(sheets, place, id)?;
+    if let Some(sheet) = sheets.get_mut(&id) {
+        sheet.keep(command);
+        sheet.propose(stamp, Made::Proposal);
+        sheet.acknowledge_own(stamp);
+    }
+    Ok(())
+}
+
+/// Takes a rank's proposal, and gives the fast quorum's choice where it is whole with it.
+pub(crate) fn acknowledge(
+    sheets: &mut Sheets,
+    place: &Place,
+    id: CommandId,
+    rank: Rank,
+    stamp: Stamp,
+) -> Option<FastChoice>
+    ensures choice { result ≡ choice_by rank.0 stamp.0 (sheet_at place.now.topology place.now.site sheets.old id) }
+    ensures changed { ChangesSheet place.now.topology place.now.site sheets.old sheets.new id (with_acknowledgement rank.0 stamp.0 (sheet_at place.now.topology place.now.site sheets.old id)) }
+{
+    match sheets.get_mut(&id) {
+        Some(sheet) => sheet.acknowledge(rank, stamp),
+        None => None,
+    }
+}
+
+/// Learns the stamp of a partition, and gives the final stamp where it is known with it.
+pub(crate) fn learn(
+    sheets: &mut Sheets,
+    place: &Place,
+    id: CommandId,
+    partition: PartitionId,
+    stamp: Stamp,
+) -> Result<Option<Stamp>, NoMemory>
+    requires some { 1 ≤ partition.0 }
+    requires few { partition.0 ≤ 4 }
+    ensures last { IfOk result (λ last. option_map (λ t. t.0) last ≡ final_by partition.0 stamp.0 (sheet_at place.now.topology place.now.site sheets.old id)) }
+    ensures changed { OnOk result (ChangesSheet place.now.topology place.now.site sheets.old sheets.new id (with_known partition.0 stamp.0 (sheet_at place.now.topology place.now.site sheets.old id))) }
+{
+    open(sheets, place, id)?;
+    match sheets.get_mut(&id) {
+        Some(sheet) => Ok(sheet.learn(partition, stamp)),
+        None => Ok(None),
+    }
+}

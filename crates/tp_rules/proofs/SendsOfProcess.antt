@@ -1,0 +1,158 @@
+-- What each row of a process sends: what holds of these messages holds of each output. Used for the order of the kinds along a
+-- run, and for the commands that messages carry.
+use Rattle.std.proofs.Common.{◌≡◌, ℕ, List, [], Option, Some, None, refl}
+use Rattle.std.specs.Prelude.{is_some, ◌==◌, ◌&&◌, nat_lt}
+use Rattle.std.proofs.lemmas.Bool.{cond_both}
+use Rattle.tp_base.proofs.Each.{each_append, each_map}
+use Rattle.tp_base.specs.Lists.{Each}
+use Rattle.tp_base.specs.declared.names.ActorName.{ActorName}
+use Rattle.tp_base.specs.declared.names.ActorName.TheVariants.{Process, Executor}
+use Rattle.tp_base.specs.declared.names.CommandId.{CommandId}
+use Rattle.tp_base.specs.declared.names.Pair.{Pair}
+use Rattle.tp_base.specs.declared.names.Site.{Site}
+use Rattle.tp_base.specs.declared.names.Stamp.{Stamp}
+use Rattle.tp_ops.specs.declared.command.Command.{Command}
+use Rattle.tp_ops.specs.Parts.{is_accessed}
+use Rattle.tp_quorum.specs.Choice.{present, fast_choice}
+use Rattle.tp_quorum.specs.declared.choice.FastChoice.{FastChoice}
+use Rattle.tp_quorum.specs.declared.choice.FastChoice.TheVariants.{Fast, Slow}
+use Rattle.tp_rules.specs.Addresses.{message, to_each, site, rank_of}
+use Rattle.tp_rules.specs.Process.{ProcessState, Moved, bumps, finished, learned, commits, decided, put_to_vote, proposals, submitted, on_submit, proposed, on_propose, on_payload, chosen, gathered, on_propose_ack, on_commit, announced, on_announce, untold, with_room, LIMIT, next_stamp, with_sheet}
+use Rattle.tp_rules.specs.Sheet.{Sheet, Setting, stamp_of, is_fresh, command_or, kept, can_acknowledge, acknowledged, is_full, with_stamp, final_stamp}
+use Rattle.tp_topology.specs.Shape.{Shape}
+use Rattle.tp_wire.specs.declared.message.Body.{Body}
+use Rattle.tp_wire.specs.declared.message.Body.TheVariants.{MPropose, MPayload, MProposeAck, MBump, MConsensus, MCommit, MPromises, MCommitted}
+use Rattle.tp_wire.specs.declared.message.Message.{Message}
+
+abbrev pub stamp : ℕ → Stamp
+stamp t = record { 0 = t }
+
+-- the outputs of a move
+abbrev pub EachSent : (Message → Type 0) → Moved → Type 0
+EachSent M moved = Each M moved.1
+
+pub each_to : (M : Message → Type 0) (from : ActorName) (names : List ActorName) (body : Body) →
+    ((to : ActorName) → M (message from to body)) → Each M (to_each from names body)
+each_to M from names body h = each_map M (λ to. message from to body) names h
+
+module _ (M : Message → Type 0) (me : Site) where
+  pub bumps_send : (shape : Shape) (c : Command) (t : ℕ) → ((to : ActorName) → M (message (Process me) to (MBump c.id (stamp t)))) →
+      Each M (bumps shape me c t)
+  unfolding bumps
+  bumps_send shape c t h = each_to M (Process me) _ (MBump c.id (stamp t)) h
+
+  pub proposals_send : (s : Setting) (c : Command) (t : ℕ) →
+      ((to : ActorName) → M (message (Process me) to (MPropose c (stamp t)))) → ((to : ActorName) → M (message (Process me) to (MPayload c))) →
+      Each M (proposals s me c t)
+  unfolding proposals
+  proposals_send s c t h k = each_map M _ _ (λ rank. cond_both (s.in_quorum c rank) (MPropose c (stamp t)) (MPayload c)
+      (λ (body : Body). M (message (Process me) (Process (site me.partition.0 rank)) body)) (λ t. h _) (λ f. k _))
+
+  pub commits_send : (shape : Shape) (o : Option Command) (t : ℕ) →
+      ((c : Command) (to : ActorName) → o ≡ Some c → M (message (Process me) to (MCommit c me.partition (stamp t)))) → Each M (commits shape me o t)
+  unfolding commits
+  commits_send shape None t h = tt
+  commits_send shape (Some c) t h = each_to M (Process me) _ (MCommit c me.partition (stamp t)) (λ to. h c to refl)
+
+  pub put_to_vote_sends : (shape : Shape) (b t : ℕ) (o : Option Command) →
+      ((c : Command) (to : ActorName) → o ≡ Some c → M (message (Process me) to (MConsensus c (stamp t) b))) → Each M (put_to_vote shape me b t o)
+  put_to_vote_sends shape b t None h = tt
+  put_to_vote_sends shape b t (Some c) h = each_to M (Process me) _ (MConsensus c (stamp t) b) (λ to. h c to refl)
+
+  pub finished_sends : (id : CommandId) (sheet : Sheet) (o : Option Command) (final : Option ℕ) (state : ProcessState) →
+      ((c : Command) (t : ℕ) → o ≡ Some c → M (message (Process me) (Executor me) (MCommitted c (stamp t)))) →
+      EachSent M (finished me id sheet o final state)
+  finished_sends id sheet None None state h = tt
+  finished_sends id sheet None (Some t) state h = tt
+  finished_sends id sheet (Some c) None state h = tt
+  finished_sends id sheet (Some c) (Some t) state h = (h c t refl, tt)
+
+  pub learned_sends : (shape : Shape) (id : CommandId) (q t : ℕ) (sheet : Sheet) (state : ProcessState) →
+      ((c : Command) (t : ℕ) → sheet.command ≡ Some c → M (message (Process me) (Executor me) (MCommitted c (stamp t)))) →
+      EachSent M (learned shape me id q t sheet state)
+  learned_sends shape id q t sheet state h =
+      let known = with_stamp q t sheet in
+      cond_both (is_some (stamp_of sheet q)) (with_sheet id sheet state, []) (finished me id known known.command (final_stamp shape known known.command) state)
+      (EachSent M) (λ e. tt) (λ e. finished_sends id known known.command (final_stamp shape known known.command) state h)
+
+  pub decided_sends : (shape : Shape) (id : CommandId) (t : ℕ) (sheet : Sheet) (state : ProcessState) →
+      ((c : Command) (to : ActorName) (t : ℕ) → sheet.command ≡ Some c → M (message (Process me) to (MCommit c me.partition (stamp t)))) →
+      ((c : Command) (t : ℕ) → sheet.command ≡ Some c → M (message (Process me) (Executor me) (MCommitted c (stamp t)))) →
+      EachSent M (decided shape me id t sheet state)
+  decided_sends shape id t sheet state h k =
+      each_append M (commits shape me sheet.command t) (learned shape me id me.partition.0 t sheet state).1
+      (commits_send shape sheet.command t (λ c to e. h c to t e)) (learned_sends shape id me.partition.0 t sheet state k)
+
+  pub on_submit_sends : (s : Setting) (c : Command) (state : ProcessState) →
+      ((to : ActorName) (t : ℕ) → M (message (Process me) to (MPropose c (stamp t)))) → ((to : ActorName) → M (message (Process me) to (MPayload c))) →
+      ((to : ActorName) (id : CommandId) (t : ℕ) → M (message (Process me) to (MBump id (stamp t)))) →
+      EachSent M (on_submit s me c state)
+  on_submit_sends s c state h k l =
+      let sheet = state.sheets c.id in
+      let t = next_stamp 0 state in
+      cond_both ((c.home.0 == me.rank.0) && is_fresh me.partition.0 sheet) (submitted s me c t sheet state) (state, []) (EachSent M)
+      (λ e. each_append M (proposals s me c t) (bumps s.shape me (command_or c sheet) t)
+      (proposals_send s c t (λ to. h to t) k) (bumps_send s.shape (command_or c sheet) t (λ to. l to (command_or c sheet).id t)))
+      (λ e. tt)
+
+  pub on_propose_sends : (s : Setting) (from : ActorName) (c : Command) (floor : ℕ) (state : ProcessState) →
+      ((t : ℕ) → M (message (Process me) from (MProposeAck c.id (stamp t)))) →
+      ((to : ActorName) (id : CommandId) (t : ℕ) → M (message (Process me) to (MBump id (stamp t)))) →
+      EachSent M (on_propose s me from c floor state)
+  on_propose_sends s from c floor state h k =
+      let sheet = state.sheets c.id in
+      let t = next_stamp floor state in
+      cond_both (is_fresh me.partition.0 sheet) (proposed s me from c t sheet state) (state, []) (EachSent M)
+      (λ e. (h t, bumps_send s.shape (command_or c sheet) t (λ to. k to (command_or c sheet).id t)))
+      (λ e. tt)
+
+  pub on_payload_sends : (c : Command) (state : ProcessState) → EachSent M (on_payload c state)
+  on_payload_sends c state = tt
+
+  pub chosen_sends : (s : Setting) (id : CommandId) (choice : FastChoice) (sheet : Sheet) (state : ProcessState) →
+      ((c : Command) (to : ActorName) (t : ℕ) → sheet.command ≡ Some c → M (message (Process me) to (MCommit c me.partition (stamp t)))) →
+      ((c : Command) (t : ℕ) → sheet.command ≡ Some c → M (message (Process me) (Executor me) (MCommitted c (stamp t)))) →
+      ((c : Command) (to : ActorName) (t b : ℕ) → sheet.command ≡ Some c → M (message (Process me) to (MConsensus c (stamp t) b))) →
+      EachSent M (chosen s me id choice sheet state)
+  chosen_sends s id (Fast t) sheet state h k l = decided_sends s.shape id t.0 sheet state h k
+  chosen_sends s id (Slow t) sheet state h k l = put_to_vote_sends s.shape me.rank.0 t.0 sheet.command (λ c to e. l c to t.0 me.rank.0 e)
+
+  pub gathered_sends : (s : Setting) (id : CommandId) (sheet : Sheet) (state : ProcessState) →
+      ((c : Command) (to : ActorName) (t : ℕ) → sheet.command ≡ Some c → M (message (Process me) to (MCommit c me.partition (stamp t)))) →
+      ((c : Command) (t : ℕ) → sheet.command ≡ Some c → M (message (Process me) (Executor me) (MCommitted c (stamp t)))) →
+      ((c : Command) (to : ActorName) (t b : ℕ) → sheet.command ≡ Some c → M (message (Process me) to (MConsensus c (stamp t) b))) →
+      EachSent M (gathered s me id sheet state)
+  gathered_sends s id sheet state h k l =
+      let choice = fast_choice s.shape (present sheet.acknowledged) in
+      cond_both (is_full s.shape sheet) (chosen s me id choice sheet state) (with_sheet id sheet state, []) (EachSent M)
+      (λ e. chosen_sends s id choice sheet state h k l) (λ e. tt)
+
+  pub on_propose_ack_sends : (s : Setting) (from : ActorName) (id : CommandId) (t : ℕ) (state : ProcessState) →
+      ((c : Command) (to : ActorName) (t : ℕ) → (state.sheets id).command ≡ Some c → M (message (Process me) to (MCommit c me.partition (stamp t)))) →
+      ((c : Command) (t : ℕ) → (state.sheets id).command ≡ Some c → M (message (Process me) (Executor me) (MCommitted c (stamp t)))) →
+      ((c : Command) (to : ActorName) (t b : ℕ) → (state.sheets id).command ≡ Some c → M (message (Process me) to (MConsensus c (stamp t) b))) →
+      EachSent M (on_propose_ack s me from id t state)
+  on_propose_ack_sends s from id t state h k l =
+      let rank = rank_of from in
+      cond_both (can_acknowledge s me.partition.0 me.rank.0 rank (state.sheets id)) (gathered s me id (acknowledged rank t (state.sheets id)) state) (state, []) (EachSent M)
+      (λ e. gathered_sends s id (acknowledged rank t (state.sheets id)) state h k l) (λ e. tt)
+
+  pub on_commit_sends : (s : Setting) (c : Command) (q t : ℕ) (state : ProcessState) →
+      ((d : Command) (t : ℕ) → (kept c (state.sheets c.id)).command ≡ Some d → M (message (Process me) (Executor me) (MCommitted d (stamp t)))) →
+      EachSent M (on_commit s me c q t state)
+  on_commit_sends s c q t state h =
+      let sheet = kept c (state.sheets c.id) in
+      cond_both (is_accessed s.shape.partitions c q) (learned s.shape me c.id q t sheet state) (state, []) (EachSent M)
+      (λ e. learned_sends s.shape c.id q t sheet state h) (λ e. tt)
+
+  pub on_announce_sends : (shape : Shape) (state : ProcessState) →
+      ((to : ActorName) (lo hi : ℕ) (pairs : List Pair) → M (message (Process me) to (MPromises lo hi pairs))) → EachSent M (on_announce shape me state)
+  unfolding announced
+  on_announce_sends shape state h =
+      let next : ProcessState = record { clock = state.clock; told = state.clock; attached = state.attached; sheets = state.sheets } in
+      cond_both (nat_lt state.told state.clock) (next, announced shape me state) (state, []) (EachSent M)
+      (λ e. each_to M (Process me) _ (MPromises state.told state.clock (untold state)) (λ to. h to state.told state.clock (untold state))) (λ e. tt)
+
+  -- a step without room sends nothing
+  pub with_room_sends : (state : ProcessState) (moved : Moved) → EachSent M moved → EachSent M (with_room state moved)
+  with_room_sends state moved h = cond_both (nat_lt moved.0.clock LIMIT) moved (state, []) (EachSent M) (λ e. h) (λ e. tt)

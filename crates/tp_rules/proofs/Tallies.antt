@@ -1,0 +1,102 @@
+-- How many items of a list pass a test, and totals of numbers over a list, under two tests or numberings of which one is
+-- nowhere above the other. Used for the counts that fall along a run.
+use Rattle.std.proofs.Common.{◌≡◌, ℕ, suc, ◌+◌, ◌*◌, ◌<◌, ◌≤◌, inl, inr, Bool, true, false, List, [], ◌∷◌, ◌++◌, length, map, refl, sym, ap, subst, ◌∙◌, arith}
+use Rattle.std.specs.Prelude.{filter}
+use Rattle.std.proofs.lemmas.Bool.{cases_Bool}
+use Rattle.tp_base.specs.Lists.{IsIn}
+use Rattle.tp_rules.specs.Left.{total}
+
+pub filter_yes : {X : Type 0} (p : X → Bool) (x : X) (xs : List X) → p x ≡ true → filter p (x ∷ xs) ≡ x ∷ filter p xs
+filter_yes p x xs e = rw e refl
+
+pub filter_no : {X : Type 0} (p : X → Bool) (x : X) (xs : List X) → p x ≡ false → filter p (x ∷ xs) ≡ filter p xs
+filter_no p x xs e = rw e refl
+
+pub count_yes : {X : Type 0} (p : X → Bool) (x : X) (xs : List X) → p x ≡ true → length (filter p (x ∷ xs)) ≡ suc (length (filter p xs))
+count_yes p x xs e = ap length (filter_yes p x xs e)
+
+pub count_no : {X : Type 0} (p : X → Bool) (x : X) (xs : List X) → p x ≡ false → length (filter p (x ∷ xs)) ≡ length (filter p xs)
+count_no p x xs e = ap length (filter_no p x xs e)
+
+pub filter_in : {X : Type 0} (p : X → Bool) (xs : List X) (x : X) → IsIn x (filter p xs) → IsIn x xs × (p x ≡ true)
+filter_in p [] x h = absurd h
+filter_in p (y ∷ ys) x h = elim (cases_Bool (p y)) [
+  | inl e ↦ let k : IsIn x (y ∷ filter p ys) = subst (IsIn x) (filter_yes p y ys e) h in elim k [
+    | inl same ↦ (inl same, ap p same ∙ e)
+    | inr later ↦ let rest = filter_in p ys x later in (inr rest.0, rest.1)
+  ]
+  | inr e ↦ let rest = filter_in p ys x (subst (IsIn x) (filter_no p y ys e) h) in (inr rest.0, rest.1)
+]
+
+pub in_filter : {X : Type 0} (p : X → Bool) (xs : List X) (x : X) → IsIn x xs → p x ≡ true → IsIn x (filter p xs)
+in_filter p [] x h does = absurd h
+in_filter p (y ∷ ys) x (inl same) does = subst (IsIn x) (sym (filter_yes p y ys (ap p (sym same) ∙ does))) (inl same)
+in_filter p (y ∷ ys) x (inr later) does = elim (cases_Bool (p y)) [
+  | inl e ↦ subst (IsIn x) (sym (filter_yes p y ys e)) (inr (in_filter p ys x later does))
+  | inr e ↦ subst (IsIn x) (sym (filter_no p y ys e)) (in_filter p ys x later does)
+]
+
+pub filter_length : {X : Type 0} (p : X → Bool) (xs : List X) → length (filter p xs) ≤ length xs
+filter_length p [] = omega arith
+filter_length p (x ∷ xs) = let rest = filter_length p xs in elim (cases_Bool (p x)) [
+  | inl e ↦ omega (arith, count_yes p x xs e)
+  | inr e ↦ omega (arith, count_no p x xs e)
+]
+
+-- where q passes no more than p does
+pub fewer : {X : Type 0} (p q : X → Bool) (xs : List X) → ((x : X) → IsIn x xs → q x ≡ true → p x ≡ true) →
+    length (filter q xs) ≤ length (filter p xs)
+fewer p q [] h = omega arith
+fewer p q (x ∷ xs) h =
+    let rest = fewer p q xs (λ y k. h y (inr k)) in
+    elim (cases_Bool (q x)) [
+      | inl e ↦ omega (arith, count_yes q x xs e, count_yes p x xs (h x (inl refl) e))
+      | inr e ↦ elim (cases_Bool (p x)) [
+        | inl f ↦ omega (arith, count_no q x xs e, count_yes p x xs f)
+        | inr f ↦ omega (arith, count_no q x xs e, count_no p x xs f)
+      ]
+    ]
+
+-- and one item that p passes it doesn't
+pub one_fewer : {X : Type 0} (p q : X → Bool) (xs : List X) (y : X) → ((x : X) → IsIn x xs → q x ≡ true → p x ≡ true) →
+    IsIn y xs → p y ≡ true → q y ≡ false → length (filter q xs) < length (filter p xs)
+one_fewer p q [] y h k does doesnt = absurd k
+one_fewer p q (x ∷ xs) y h (inl same) does doesnt =
+    let rest = fewer p q xs (λ z k. h z (inr k)) in
+    omega (arith, count_no q x xs (ap q (sym same) ∙ doesnt), count_yes p x xs (ap p (sym same) ∙ does))
+one_fewer p q (x ∷ xs) y h (inr later) does doesnt =
+    let rest = one_fewer p q xs y (λ z k. h z (inr k)) later does doesnt in
+    elim (cases_Bool (q x)) [
+      | inl e ↦ omega (arith, count_yes q x xs e, count_yes p x xs (h x (inl refl) e))
+      | inr e ↦ elim (cases_Bool (p x)) [
+        | inl f ↦ omega (arith, count_no q x xs e, count_yes p x xs f)
+        | inr f ↦ omega (arith, count_no q x xs e, count_no p x xs f)
+      ]
+    ]
+
+-- where no item passes
+pub filter_none : {X : Type 0} (p : X → Bool) (xs : List X) → ((x : X) → IsIn x xs → p x ≡ false) → filter p xs ≡ []
+filter_none p [] h = refl
+filter_none p (x ∷ xs) h = filter_no p x xs (h x (inl refl)) ∙ filter_none p xs (λ y k. h y (inr k))
+
+pub total-append : (ms ns : List ℕ) → total (ms ++ ns) ≡ total ms + total ns
+total-append [] ns = omega arith
+total-append (m ∷ ms) ns = omega (arith, total-append ms ns)
+
+-- where g is nowhere above f
+pub lower_total : {X : Type 0} (f g : X → ℕ) (xs : List X) → ((x : X) → IsIn x xs → g x ≤ f x) → total (map g xs) ≤ total (map f xs)
+lower_total f g [] h = omega arith
+lower_total f g (x ∷ xs) h = omega (arith, h x (inl refl), lower_total f g xs (λ y k. h y (inr k)))
+
+-- and below it at one item
+pub less_total : {X : Type 0} (f g : X → ℕ) (xs : List X) (y : X) → ((x : X) → IsIn x xs → g x ≤ f x) → IsIn y xs → g y < f y →
+    total (map g xs) < total (map f xs)
+less_total f g [] y h k less = absurd k
+less_total f g (x ∷ xs) y h (inl same) less =
+    let here : g x < f x = subst (λ z. g z < f z) same less in
+    omega (arith, here, lower_total f g xs (λ z k. h z (inr k)))
+less_total f g (x ∷ xs) y h (inr later) less = omega (arith, h x (inl refl), less_total f g xs y (λ z k. h z (inr k)) later less)
+
+pub total_bound : {X : Type 0} (f : X → ℕ) (xs : List X) (n : ℕ) → ((x : X) → IsIn x xs → f x ≤ n) → total (map f xs) ≤ length xs * n
+total_bound f [] n h = omega arith
+total_bound f (x ∷ xs) n h = omega (arith, h x (inl refl), total_bound f xs n (λ y k. h y (inr k)))

@@ -1,0 +1,57 @@
+use crate::any_actor::AnyActor;
+use std::alloc::{AllocError, Global};
+use tp_base::{CommandId, Duplicate, NoMemory, PartitionId, Rank, SessionId, Site};
+use tp_executor::Executor;
+use tp_process::Process;
+use tp_script::{Commands, Script};
+use tp_session::Session;
+
+/// The script's actors: its sessions, its processes, its executors, each ascending.
+pub fn cast(alloc: Global, script: &Script) -> Result<Vec<AnyActor>, NoMemory> {
+    let mut actors = Vec::new(alloc);
+    for s in 1..script.homes.len() + 1 {
+        actors.push(session(alloc, script, s)?)?;
+    }
+    for p in 1..script.topology.partitions() + 1 {
+        for k in 1..script.topology.replicas() + 1 {
+            let process = Process::new(alloc, &script.topology, site(p, k));
+            actors.push(AnyActor::Process(process))?;
+        }
+    }
+    for p in 1..script.topology.partitions() + 1 {
+        for k in 1..script.topology.replicas() + 1 {
+            let executor = Executor::new(alloc, &script.topology, site(p, k))?;
+            actors.push(AnyActor::Executor(executor))?;
+        }
+    }
+    Ok(actors)
+}
+
+fn site(partition: u8, rank: u8) -> Site {
+    Site {
+        partition: PartitionId(partition),
+        rank: Rank(rank),
+    }
+}
+
+// A session with its own commands, in order.
+fn session(alloc: Global, script: &Script, number: usize) -> Result<AnyActor, NoMemory> {
+    let id = SessionId(number as u8);
+    let mut commands = Commands::new(alloc);
+    for command in script.commands.as_slice() {
+        if command.id.session == id {
+            commands.add(command.copy()?)?;
+        }
+    }
+    let home = match script.homes.get(number - 1) {
+        Some(home) => *home,
+        None => Rank(1),
+    };
+    Ok(AnyActor::Session(Session::new(
+        alloc,
+        id,
+        home,
+        &script.topology,
+        commands,
+    )))
+}

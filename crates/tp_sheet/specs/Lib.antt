@@ -1,0 +1,2 @@
+pub mod SiteSheet
+pub mod View

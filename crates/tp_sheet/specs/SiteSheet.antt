@@ -1,0 +1,79 @@
+-- A sheet with the site that keeps it, and what a call makes of it.
+use Rattle.std.specs.Prelude.{ℕ, ◌≤◌, ◌&&◌, Bool, cond, Option, Some, None, is_some}
+use Rattle.std.specs.Option.{option_map}
+use Rattle.tp_base.specs.declared.names.Site.{Site}
+use Rattle.tp_quorum.specs.Choice.{present, fast_choice}
+use Rattle.tp_quorum.specs.declared.choice.FastChoice.{FastChoice}
+use Rattle.tp_quorum.specs.declared.choice.FastChoice.TheVariants.{Fast, Slow}
+use Rattle.tp_rules.specs.Addresses.{is_between}
+use Rattle.tp_rules.specs.Sheet.{Sheet, blank, can_acknowledge, acknowledged, acknowledged_own, is_full, putting, ring_setting, stamp_of, with_stamp, final_stamp}
+use Rattle.tp_topology.specs.Shape.{Shape}
+
+-- what the process of a site keeps of one command
+pub record SiteSheet : Type 0 where
+  pub shape : Shape
+  pub site : Site
+  pub sheet : Sheet
+
+-- a site of the shape
+pub record IsSiteOf (shape : Shape) (site : Site) : Type 0 where
+  pub some_partition : 1 ≤ site.partition.0
+  pub few_partitions : site.partition.0 ≤ shape.partitions
+  pub some_rank : 1 ≤ site.rank.0
+  pub few_ranks : site.rank.0 ≤ shape.replicas
+
+abbrev pub blank_at : Shape → Site → SiteSheet
+blank_at shape site = record { shape = shape; site = site; sheet = blank shape }
+
+-- at the same site, with another sheet
+abbrev pub with_sheet : Sheet → SiteSheet → SiteSheet
+with_sheet sheet kept = record { shape = kept.shape; site = kept.site; sheet = sheet }
+
+-- the proposal's stamp
+abbrev pub proposal_of : Sheet → Option ℕ
+proposal_of sheet = option_map (λ p. p.stamp) sheet.proposal
+
+-- whether the acknowledgement of a rank of the shape counts here
+abbrev pub takes_acknowledgement : ℕ → SiteSheet → Bool
+takes_acknowledgement rank kept =
+    is_between rank kept.shape.replicas
+    && can_acknowledge (ring_setting kept.shape) kept.site.partition.0 kept.site.rank.0 rank kept.sheet
+
+-- the own proposal acknowledged, where it counts
+abbrev pub with_own : ℕ → SiteSheet → SiteSheet
+with_own t kept = with_sheet (acknowledged_own (ring_setting kept.shape) kept.site.partition.0 kept.site.rank.0 t kept.sheet) kept
+
+-- the choice, where the whole fast quorum has acknowledged
+abbrev pub choice_where_full : Shape → Sheet → Option FastChoice
+choice_where_full shape sheet = cond (is_full shape sheet) (Some (fast_choice shape (present sheet.acknowledged))) None
+
+-- with what a slow choice puts to the vote
+abbrev pub put_by : Shape → ℕ → Option FastChoice → Sheet → Sheet
+put_by shape own (Some (Slow t)) sheet = putting shape own t.0 sheet
+put_by shape own (Some (Fast t)) sheet = sheet
+put_by shape own None sheet = sheet
+
+-- the choice that a rank's acknowledgement leads to
+abbrev pub choice_by : ℕ → ℕ → SiteSheet → Option FastChoice
+choice_by rank t kept =
+    cond (takes_acknowledgement rank kept) (choice_where_full kept.shape (acknowledged rank t kept.sheet)) None
+
+-- with a rank's acknowledgement, where it counts
+abbrev pub with_acknowledgement : ℕ → ℕ → SiteSheet → SiteSheet
+with_acknowledgement rank t kept = with_sheet
+    (cond (takes_acknowledgement rank kept)
+    (put_by kept.shape kept.site.rank.0 (choice_by rank t kept) (acknowledged rank t kept.sheet))
+    kept.sheet)
+    kept
+
+-- with a partition's stamp, where it was not known
+abbrev pub with_known : ℕ → ℕ → SiteSheet → SiteSheet
+with_known q t kept = with_sheet (cond (is_some (stamp_of kept.sheet q)) kept.sheet (with_stamp q t kept.sheet)) kept
+
+-- the final stamp, where all stamps are known
+abbrev pub final_of : SiteSheet → Option ℕ
+final_of kept = final_stamp kept.shape kept.sheet kept.sheet.command
+
+-- the final stamp, where this stamp was not known and all are known with it
+abbrev pub final_by : ℕ → ℕ → SiteSheet → Option ℕ
+final_by q t kept = cond (is_some (stamp_of kept.sheet q)) None (final_of (with_known q t kept))

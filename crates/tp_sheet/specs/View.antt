@@ -1,0 +1,32 @@
+-- What a contract sees of the code's sheet.
+use Rattle.std.specs.Prelude.{◌≤◌, take}
+use Rattle.std.specs.Option.{option_map}
+use Rattle.tp_sheet.specs.SiteSheet.{SiteSheet, IsSiteOf}
+use Rattle.tp_sheet.specs.declared.sheet.Sheet.TheInside.{Inside}
+
+-- of the tables as many places as there are partitions or replicas
+abbrev pub view_of : Inside → SiteSheet
+view_of s = record {
+  shape = s.topology;
+  site = s.site;
+  sheet = record {
+    command = s.command;
+    proposal = option_map (λ p. record { stamp = p.stamp; made = p.made }) s.proposal;
+    ballot = s.ballot;
+    accepted_ballot = s.accepted_ballot;
+    accepted_stamp = s.accepted_stamp;
+    known = take s.topology.partitions s.known;
+    acknowledged = take s.topology.replicas s.acknowledged;
+    tried = s.tried;
+    answers = take s.topology.replicas s.answers;
+    putting_ballot = s.putting_ballot;
+    putting_stamp = s.putting_stamp;
+    votes = take s.topology.replicas s.votes;
+  };
+}
+
+-- the tables have room for each partition and each replica, and the site is one of them
+pub record IsSheet (s : Inside) : Type 0 where
+  pub few_partitions : s.topology.partitions ≤ 4
+  pub few_replicas : s.topology.replicas ≤ 7
+  pub site : IsSiteOf s.topology s.site

@@ -1,0 +1,9 @@
+//! What a process keeps of one command, and what each piece of the rules changes of it.
+#![tactic(auto)]
+
+mod access;
+mod gathered;
+mod sheet;
+
+pub use access::accesses;
+pub use sheet::Sheet;

@@ -1,0 +1,309 @@
+ghost use Rattle.std.specs.Prelude.{◌≡◌, ◌≤◌, is_some, length, map};
+ghost use Rattle.std.specs.Option.{option_copied, option_map};
+ghost use Rattle.tp_rules.specs.Sheet.{kept, with_proposal, is_fresh, can_acknowledge, acknowledged, with_stamp, is_member, is_made_by_proposal, putting, ring_setting, stamp_of, greatest_known as greatest_of_known};
+ghost use Rattle.tp_rules.specs.Addresses.{accessed, is_between};
+ghost use Rattle.tp_rules.specs.Tables.{kept_at as place_of};
+ghost use Rattle.tp_sheet.specs.SiteSheet.{IsSiteOf, blank_at, with_sheet, proposal_of, with_own, choice_where_full, choice_by, with_acknowledgement, with_known, final_of, final_by};
+
+use crate::access::accesses;
+use crate::gathered::{count, fast_choice};
+use std::marker::Model;
+use tp_base::{Made, PartitionId, Rank, Site, Stamp};
+use tp_choice::RecoveryAnswer;
+use tp_ops::Command;
+use tp_quorum::FastChoice;
+use tp_topology::Topology;
+
+/// What the process of a site keeps of one command: the tables by partition and by rank have a place
+/// for each, from the first on.
+#[derive(Debug, Drop)]
+pub struct Sheet {
+    topology: Topology,
+    site: Site,
+    command: Option<Command>,
+    proposal: Option<Proposed>,
+    ballot: u64,
+    accepted_ballot: u64,
+    accepted_stamp: u64,
+    known: [Option<u64>; 4],
+    acknowledged: [Option<u64>; 7],
+    tried: u64,
+    answers: [Option<RecoveryAnswer>; 7],
+    putting_ballot: u64,
+    putting_stamp: u64,
+    votes: [bool; 7],
+}
+
+/// A proposal's stamp, and how it was made.
+#[derive(Clone, Copy, Debug)]
+struct Proposed {
+    stamp: u64,
+    made: Made,
+}
+
+impl Model for Sheet {
+    ghost use Rattle.tp_sheet.specs.SiteSheet.{SiteSheet};
+
+    ghost Value = { SiteSheet };
+
+    ghost use Rattle.tp_sheet.specs.View.{view_of, IsSheet};
+
+    ghost view = { view_of };
+
+    ghost invariant = { IsSheet };
+}
+
+impl Sheet {
+    /// The sheet of a command that the site has not heard of.
+    pub fn new(topology: &Topology, site: Site) -> Sheet
+        requires { IsSiteOf topology.now site }
+        ensures { result ≡ blank_at topology.now site }
+    {
+        let (partitions, replicas) = (topology.partitions(), topology.replicas());
+        prove!(partitions <= 4 && replicas <= 7);
+        Sheet {
+            topology: *topology,
+            site,
+            command: None,
+            proposal: None,
+            ballot: 0,
+            accepted_ballot: 0,
+            accepted_stamp: 0,
+            known: [None; 4],
+            acknowledged: [None; 7],
+            tried: 0,
+            answers: [None; 7],
+            putting_ballot: 0,
+            putting_stamp: 0,
+            votes: [false; 7],
+        }
+    }
+
+    /// The command that is kept.
+    pub fn command(&self) -> Option<&Command>
+        ensures { option_copied result ≡ self.now.sheet.command }
+    {
+        self.command.as_ref()
+    }
+
+    /// The stamp of the own proposal.
+    pub fn proposal(&self) -> Option<Stamp>
+        ensures { option_map (λ t. t.0) result ≡ proposal_of self.now.sheet }
+    {
+        self.proposal.map(|proposed| Stamp(proposed.stamp))
+    }
+
+    /// The stamp of a partition, where it is known.
+    pub fn stamp(&self, partition: PartitionId) -> Option<Stamp>
+        ensures { option_map (λ t. t.0) result ≡ stamp_of self.now.sheet partition.0 }
+    {
+        kept_at(self.known_stamps(), partition.0).map(Stamp)
+    }
+
+    /// Whether there is no proposal and no ballot, and the site's partition has no stamp yet.
+    pub fn is_fresh(&self) -> bool
+        ensures { result ≡ is_fresh self.now.site.partition.0 self.now.sheet }
+    {
+        self.proposal.is_none() && self.ballot == 0 && !self.knows(self.site.partition)
+    }
+
+    /// The command's final stamp, where the stamps of all its partitions are known.
+    pub fn final_stamp(&self) -> Option<Stamp>
+        ensures { option_map (λ t. t.0) result ≡ final_of self.now }
+    {
+        match &self.command {
+            None => None,
+            Some(command) => greatest_known(command, &self.topology, self.known_stamps()),
+        }
+    }
+
+    /// Keeps a command where none is kept.
+    pub fn keep(&mut self, command: Command)
+        ensures { self.new ≡ with_sheet (kept command self.old.sheet) self.old }
+    {
+        if self.command.is_none() {
+            self.command = Some(command);
+        }
+    }
+
+    /// Keeps a proposal.
+    pub fn propose(&mut self, stamp: Stamp, made: Made)
+        ensures { self.new ≡ with_sheet (with_proposal stamp.0 made self.old.sheet) self.old }
+    {
+        self.proposal = Some(Proposed {
+            stamp: stamp.0,
+            made,
+        });
+    }
+
+    /// Acknowledges the own proposal where that of another rank would be.
+    pub fn acknowledge_own(&mut self, stamp: Stamp)
+        ensures { self.new ≡ with_own stamp.0 self.old }
+    {
+        let own = self.own_rank();
+        if self.can_acknowledge(own) {
+            self.add_acknowledgement(own, stamp);
+        }
+    }
+
+    /// Takes a rank's proposal, and gives the choice where the whole fast quorum has acknowledged
+    /// with it. What is chosen slowly is put to the vote at the own rank.
+    pub fn acknowledge(&mut self, rank: Rank, stamp: Stamp) -> Option<FastChoice>
+        ensures choice { result ≡ choice_by rank.0 stamp.0 self.old }
+        ensures taken { self.new ≡ with_acknowledgement rank.0 stamp.0 self.old }
+    {
+        if !(self.has_rank(rank) && self.can_acknowledge(rank)) {
+            return None;
+        }
+        self.add_acknowledgement(rank, stamp);
+        let choice = self.choice();
+        if let Some(FastChoice::Slow(top)) = choice {
+            self.put(top);
+        }
+        choice
+    }
+
+    /// Learns the stamp of a partition where it is not known, and gives the final stamp where those
+    /// of all the command's partitions are known with it.
+    pub fn learn(&mut self, partition: PartitionId, stamp: Stamp) -> Option<Stamp>
+        requires some { 1 ≤ partition.0 }
+        requires few { partition.0 ≤ 4 }
+        ensures last { option_map (λ t. t.0) result ≡ final_by partition.0 stamp.0 self.old }
+        ensures known { self.new ≡ with_known partition.0 stamp.0 self.old }
+    {
+        if self.knows(partition) {
+            return None;
+        }
+        self.set_stamp(partition, stamp);
+        self.final_stamp()
+    }
+
+    fn own_rank(&self) -> Rank
+        ensures own { result ≡ self.now.site.rank }
+        ensures range { (1 ≤ result.0) × (result.0 ≤ self.now.shape.replicas) }
+    {
+        self.site.rank
+    }
+
+    fn has_rank(&self, rank: Rank) -> bool
+        ensures { result ≡ is_between rank.0 self.now.shape.replicas }
+    {
+        1 <= rank.0 && rank.0 <= self.topology.replicas()
+    }
+
+    fn knows(&self, partition: PartitionId) -> bool
+        ensures { result ≡ is_some (stamp_of self.now.sheet partition.0) }
+    {
+        kept_at(self.known_stamps(), partition.0).is_some()
+    }
+
+    fn known_stamps(&self) -> &[Option<u64>]
+        ensures { result.now ≡ self.now.sheet.known }
+    {
+        &self.known[..usize::from(self.topology.partitions())]
+    }
+
+    fn acknowledgements(&self) -> &[Option<u64>]
+        ensures table { result.now ≡ self.now.sheet.acknowledged }
+        ensures few { length result.now ≤ 7 }
+    {
+        &self.acknowledged[..usize::from(self.topology.replicas())]
+    }
+
+    fn can_acknowledge(&self, rank: Rank) -> bool
+        requires some { 1 ≤ rank.0 }
+        requires few { rank.0 ≤ self.now.shape.replicas }
+        ensures { result ≡ can_acknowledge (ring_setting self.now.shape) self.now.site.partition.0 self.now.site.rank.0 rank.0 self.now.sheet }
+    {
+        self.is_member(rank)
+            && self.has_proposed()
+            && self.ballot == 0
+            && self.putting_ballot == 0
+            && !self.knows(self.site.partition)
+            && kept_at(self.acknowledgements(), rank.0).is_none()
+            && count(self.acknowledgements()) < self.topology.fast_size()
+    }
+
+    fn is_member(&self, rank: Rank) -> bool
+        requires some { 1 ≤ rank.0 }
+        requires few { rank.0 ≤ self.now.shape.replicas }
+        ensures { result ≡ is_member (ring_setting self.now.shape) self.now.site.rank.0 rank.0 self.now.sheet.command }
+    {
+        match &self.command {
+            None => false,
+            Some(command) => {
+                command.home == self.site.rank && self.topology.in_fast_quorum(command.home, rank)
+            }
+        }
+    }
+
+    fn has_proposed(&self) -> bool
+        ensures { result ≡ is_made_by_proposal self.now.sheet.proposal }
+    {
+        match self.proposal {
+            None => false,
+            Some(proposed) => proposed.made == Made::Proposal,
+        }
+    }
+
+    fn add_acknowledgement(&mut self, rank: Rank, stamp: Stamp)
+        requires some { 1 ≤ rank.0 }
+        requires few { rank.0 ≤ self.old.shape.replicas }
+        ensures { self.new ≡ with_sheet (acknowledged rank.0 stamp.0 self.old.sheet) self.old }
+    {
+        self.acknowledged[usize::from(rank.0) - 1] = Some(stamp.0);
+    }
+
+    fn set_stamp(&mut self, partition: PartitionId, stamp: Stamp)
+        requires some { 1 ≤ partition.0 }
+        requires few { partition.0 ≤ 4 }
+        ensures { self.new ≡ with_sheet (with_stamp partition.0 stamp.0 self.old.sheet) self.old }
+    {
+        self.known[usize::from(partition.0) - 1] = Some(stamp.0);
+    }
+
+    fn choice(&self) -> Option<FastChoice>
+        ensures { result ≡ choice_where_full self.now.shape self.now.sheet }
+    {
+        if count(self.acknowledgements()) == self.topology.fast_size() {
+            Some(fast_choice(&self.topology, self.acknowledgements()))
+        } else {
+            None
+        }
+    }
+
+    /// Puts a stamp to the vote, at the own rank as ballot and without votes.
+    fn put(&mut self, stamp: Stamp)
+        ensures { self.new ≡ with_sheet (putting self.old.shape self.old.site.rank.0 stamp.0 self.old.sheet) self.old }
+    {
+        self.putting_ballot = u64::from(self.site.rank.0);
+        self.putting_stamp = stamp.0;
+        self.votes = [false; 7];
+    }
+}
+
+/// What a table keeps at a place, from 1.
+fn kept_at(table: &[Option<u64>], place: u8) -> Option<u64>
+    ensures { result ≡ place_of table.now place }
+{
+    if place == 0 {
+        return None;
+    }
+    table.get(usize::from(place) - 1).copied().flatten()
+}
+
+/// The greatest of the stamps of a command's partitions, where each is known.
+fn greatest_known(command: &Command, topology: &Topology, known: &[Option<u64>]) -> Option<Stamp>
+    ensures { option_map (λ t. t.0) result ≡ greatest_of_known (map (λ q. place_of known.now q) (accessed topology.now command.now)) }
+{
+    let mut greatest = 0;
+    for partition in 1..topology.partitions() + 1 {
+        if accesses(command, topology.partitions(), PartitionId(partition)) {
+            let stamp = kept_at(known, partition)?;
+            if greatest < stamp {
+                greatest = stamp;
+            }
+        }
+    }
+    Some(Stamp(greatest))
+}
