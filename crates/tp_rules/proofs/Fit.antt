@@ -1,6 +1,6 @@
 -- Messages in the ranges of the wire format whose commands are the script's, and what of a script's shape they need.
 -- Each message that a run sends is such a one.
-use Rattle.std.proofs.Common.{◌≡◌, ℕ, true, Option, Some, None, arith}
+use Rattle.std.proofs.Common.{◌≡◌, ℕ, true, arith}
 use Rattle.std.proofs.lemmas.Bool.{and_parts, leb-true}
 use Rattle.std.specs.Prelude.{nat_le}
 use Rattle.tp_base.proofs.Each.{each_in, each_weaker}
@@ -11,8 +11,9 @@ use Rattle.tp_base.specs.declared.names.Site.{Site}
 use Rattle.tp_ops.specs.Limits.{IsCommand}
 use Rattle.tp_ops.specs.Parts.{is_accessed}
 use Rattle.tp_ops.specs.declared.command.Command.{Command}
+use Rattle.tp_rules.proofs.EachSent.{TookOnly}
 use Rattle.tp_rules.proofs.Selections.{each_filter, each_image, each_up_to}
-use Rattle.tp_rules.specs.Acts.{Act, Took, Did}
+use Rattle.tp_rules.specs.Acts.{Act}
 use Rattle.tp_rules.specs.Addresses.{accessed, executors_of, is_between, is_site_of, others_accessed, processes_of, site}
 use Rattle.tp_script.specs.Accepted.{IsAccepted, IsCommandOf}
 use Rattle.tp_script.specs.declared.script.Script.{Script}
@@ -45,13 +46,7 @@ pub record IsFit (script : Script) (m : Message) : Type 0 where
   pub ours : IsBodyOf script m.body
 
 abbrev pub IsFitAct : Script → Act → Type 0
-IsFitAct script (Took m) = IsFit script m
-IsFitAct script (Did inner) = Unit {0}
-
--- P of what is there, if anything is
-abbrev pub IfAny : {X : Type 0} → (X → Type 0) → Option X → Type 0
-IfAny P None = Unit {0}
-IfAny P (Some x) = P x
+IsFitAct script act = TookOnly (IsFit script) act
 
 -- a command of the script that accesses a partition
 pub record IsCommandHere (script : Script) (p : ℕ) (c : Command) : Type 0 where

@@ -16,8 +16,8 @@ use Rattle.tp_ops.specs.Store.{Contents, after, after_all, answer_of, answers_of
 use Rattle.tp_ops.specs.declared.command.Command.{Command}
 use Rattle.tp_ops.specs.declared.operation.Op.{Op}
 use Rattle.tp_ops.specs.declared.operation.Op.TheVariants.{Get, Put, Del, Cas}
-use Rattle.tp_rules.proofs.Fit.{IfAny, IsBodyOf, IsCommandHere, IsFit, IsFitAct, command_in_range, site_in_range, site_is}
-use Rattle.tp_rules.proofs.Selections.{each_filter, filter_shorter, filter_some}
+use Rattle.tp_rules.proofs.Fit.{IsBodyOf, IsCommandHere, IsFit, IsFitAct, command_in_range, site_in_range, site_is}
+use Rattle.tp_rules.proofs.Selections.{IfAny, each_filter, filter_shorter, filter_some}
 use Rattle.tp_rules.specs.Acts.{Act, Took, Did}
 use Rattle.tp_rules.specs.Addresses.{is_between, is_body_at, is_name_of, is_site_of, rank_of}
 use Rattle.tp_rules.specs.Executor.{Committed, ExecutorState, Moved, committed_ids, execute_least, executed, least, lesser, on_body, on_committed, on_promises, react, state_after, waiting}

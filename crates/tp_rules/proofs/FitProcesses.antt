@@ -13,10 +13,10 @@ use Rattle.tp_base.specs.declared.names.Made.{Made}
 use Rattle.tp_base.specs.declared.names.Pair.{Pair}
 use Rattle.tp_ops.specs.declared.command.Command.{Command}
 use Rattle.tp_rules.proofs.Distinct.{Distinct}
-use Rattle.tp_rules.proofs.Fit.{IfAny, IsCommandHere}
+use Rattle.tp_rules.proofs.Fit.{IsCommandHere}
 use Rattle.tp_rules.proofs.FitPromises.{Descends, descends_higher}
 use Rattle.tp_rules.proofs.FitStamps.{with_fit}
-use Rattle.tp_rules.proofs.Selections.{each_replicate}
+use Rattle.tp_rules.proofs.Selections.{IfAny, each_replicate}
 use Rattle.tp_rules.specs.Process.{LIMIT, ProcessState, bumped, proposing, start, with_sheet}
 use Rattle.tp_rules.specs.Sheet.{Sheet, acknowledged, blank, command_or, kept, putting, with_proposal, with_stamp}
 use Rattle.tp_script.specs.declared.script.Script.{Script}

@@ -46,6 +46,16 @@ pub picked_run_more : (script : Script) (journal : List Entry) (e : Entry)
 unfolding IsPickedRun
 picked_run_more script journal e run picked = subst (IsPickedHistory script) (sym (reverse_push journal e)) (run, picked)
 
+-- a run is a free run
+
+pub history_is_free : (script : Script) (older : List Entry) → IsHistory script older → IsFreeHistory script older
+history_is_free script [] history = tt
+history_is_free script (e ∷ older) history = (history_is_free script older history.0, history.1.rules)
+
+pub run_is_free : (script : Script) (journal : List Entry) → IsRun script journal → IsFreeRun script journal
+unfolding IsRun IsFreeRun
+run_is_free script journal run = history_is_free script (reverse journal) run
+
 -- acts after one more entry: with the newest entry first, and for a journal in its own order
 
 pub acts_of_newest : (older : List Entry) (e : Entry) → acts (e ∷ older) e.actor ≡ with_act (act_of older e.event) (acts older e.actor)

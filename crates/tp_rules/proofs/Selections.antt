@@ -1,5 +1,5 @@
 -- What holds of each item of a list that is filtered, mapped, flattened or turned round, and of the numbers 1 to n.
-use Rattle.std.proofs.Common.{◌≡◌, ℕ, zero, suc, ◌≤◌, inl, inr, Bool, true, List, [], ◌∷◌, length, Some, arith}
+use Rattle.std.proofs.Common.{◌≡◌, ℕ, zero, suc, ◌≤◌, inl, inr, Bool, true, List, [], ◌∷◌, length, Option, Some, None, arith}
 use Rattle.std.proofs.lemmas.Bool.{cond_both, or_cases}
 use Rattle.std.specs.List.{flat_map, list_any}
 use Rattle.std.specs.Prelude.{filter, map, replicate, reverse, slice_get}
@@ -8,6 +8,11 @@ use Rattle.tp_base.proofs.Members.{in_get, in_reversed}
 use Rattle.tp_base.specs.Limits.{IsFrom}
 use Rattle.tp_base.specs.Lists.{Each}
 use Rattle.tp_topology.specs.Counting.{up_to}
+
+-- P of what is there, if anything is
+abbrev pub IfAny : {X : Type 0} → (X → Type 0) → Option X → Type 0
+IfAny P None = Unit {0}
+IfAny P (Some x) = P x
 
 pub each_filter : {X : Type 0} (P : X → Type 0) (test : X → Bool) (xs : List X) → Each P xs → Each P (filter test xs)
 each_filter P test [] h = tt

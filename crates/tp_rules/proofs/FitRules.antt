@@ -1,0 +1,281 @@
+-- A process of an accepted script that took messages that are fit sends messages that are fit: each rule of it.
+use Rattle.std.proofs.Common.{◌≡◌, ℕ, ◌<◌, Bool, true, false, List, [], ◌∷◌, length, Option, Some, None, refl, arith}
+use Rattle.std.proofs.lemmas.Bool.{and_parts, cond_both, eqb-true, ltb-true}
+use Rattle.std.specs.Prelude.{is_none, is_some, nat_lt, ◌==◌, ◌&&◌}
+use Rattle.tp_base.proofs.Each.{each_append}
+use Rattle.tp_base.proofs.Members.{map_in}
+use Rattle.tp_base.specs.Lists.{Each, IsIn}
+use Rattle.tp_base.specs.Names.{same_name}
+use Rattle.tp_base.specs.declared.names.ActorName.{ActorName}
+use Rattle.tp_base.specs.declared.names.ActorName.TheVariants.{Process}
+use Rattle.tp_base.specs.declared.names.CommandId.{CommandId}
+use Rattle.tp_base.specs.declared.names.Made.TheVariants.{Proposal}
+use Rattle.tp_base.specs.declared.names.Site.{Site}
+use Rattle.tp_ops.specs.Limits.{IsCommand}
+use Rattle.tp_ops.specs.Parts.{is_accessed}
+use Rattle.tp_ops.specs.declared.command.Command.{Command}
+use Rattle.tp_quorum.specs.Choice.{fast_choice, present}
+use Rattle.tp_quorum.specs.declared.choice.FastChoice.{FastChoice}
+use Rattle.tp_quorum.specs.declared.choice.FastChoice.TheVariants.{Fast, Slow}
+use Rattle.tp_rules.proofs.Fit.{IsBodyOf, IsCommandHere, IsFit, IsFitAct}
+use Rattle.tp_rules.proofs.FitProcesses.{IsProcessSound, IsSheetSound, acknowledged_sound, bumped_sound, command_or_here, ids_of, kept_sound, proposing_sound, putting_sound, start_sound, with_proposal_sound, with_sheet_sound, with_stamp_sound}
+use Rattle.tp_rules.proofs.FitSends.{announced_fit, bumps_fit, commits_fit, is_command, own_ballot, own_partition, own_site, proposals_fit, setting_of, votes_fit}
+use Rattle.tp_rules.proofs.FitStamps.{IsChoiceInRange, choice_number, final_number, present_fit}
+use Rattle.tp_rules.proofs.Selections.{IfAny}
+use Rattle.tp_rules.specs.Acts.{Act, Took, Did}
+use Rattle.tp_rules.specs.Addresses.{is_between, is_body_at, is_name_of, is_site_of, rank_of}
+use Rattle.tp_rules.specs.Process.{LIMIT, Moved, ProcessState, announced, bumps, chosen, commits, decided, finished, gathered, learned, next_stamp, on_announce, on_body, on_commit, on_payload, on_propose, on_propose_ack, on_submit, proposals, proposed, react, state_after, submitted, with_room, with_sheet}
+use Rattle.tp_rules.specs.Sheet.{Setting, Sheet, acknowledged, acknowledged_own, can_acknowledge, command_or, final_stamp, is_fresh, is_full, kept, putting, stamp_of, with_proposal, with_stamp}
+use Rattle.tp_rules.specs.declared.event.Inner.TheVariants.{Announce}
+use Rattle.tp_script.specs.Accepted.{IsAccepted}
+use Rattle.tp_script.specs.declared.script.Script.{Script}
+use Rattle.tp_topology.specs.Shape.{fast_size}
+use Rattle.tp_wire.specs.Ranges.{IsBody, IsNumber, IsProcess}
+use Rattle.tp_wire.specs.declared.message.Body.{Body}
+use Rattle.tp_wire.specs.declared.message.Body.TheVariants.{MSubmit, MPropose, MPayload, MProposeAck, MCommit}
+
+module _ (script : Script) (accepted : IsAccepted script) (in_quorum : Command → ℕ → Bool) (me : Site)
+    (here : is_site_of script.topology me ≡ true) where
+  abbrev pub setting : Setting
+  setting = setting_of script in_quorum
+
+  abbrev pub IsSound : ProcessState → Type 0
+  IsSound state = IsProcessSound script me.partition.0 state
+
+  abbrev IsSheet : Sheet → Type 0
+  IsSheet sheet = IsSheetSound script me.partition.0 sheet
+
+  abbrev IsHere : Command → Type 0
+  IsHere c = IsCommandHere script me.partition.0 c
+
+  -- what is kept stays in order, and what is sent is fit
+  abbrev pub IsSettled : Moved → Type 0
+  IsSettled moved = IsSound moved.0 × Each (IsFit script) moved.1
+
+  -- where there is room
+  abbrev Goes : Moved → Type 0
+  Goes moved = moved.0.clock < LIMIT → IsSettled moved
+
+  room_fit : (state : ProcessState) (moved : Moved) → IsSound state → Goes moved → IsSettled (with_room state moved)
+  room_fit state moved sound goes =
+      cond_both (nat_lt moved.0.clock LIMIT) moved (state, []) IsSettled (λ t. goes (ltb-true moved.0.clock LIMIT t)) (λ f. (sound, tt))
+
+  -- a stamp is learned and decided
+
+  finished_fit : (id : CommandId) (sheet : Sheet) (o : Option Command) (final : Option ℕ) (state : ProcessState) → IsSound state → IsSheet sheet
+      → sheet.proposal ≡ (state.sheets id).proposal → IfAny IsHere o → IfAny IsNumber final → Goes (finished me id sheet o final state)
+  finished_fit id sheet None final state sound new same ours number room =
+      (with_sheet_sound script me.partition.0 id sheet state sound new same, tt)
+  finished_fit id sheet (Some c) None state sound new same ours number room =
+      (with_sheet_sound script me.partition.0 id sheet state sound new same, tt)
+  finished_fit id sheet (Some c) (Some t) state sound new same ours number room =
+      let site = own_site script accepted in_quorum me here in (
+        bumped_sound script me.partition.0 t (with_sheet id sheet state)
+            (with_sheet_sound script me.partition.0 id sheet state sound new same) room,
+        (record { range = (site, site, is_command script accepted in_quorum me here c ours, number); ours = ours.ours }, tt),
+      )
+
+  final_fit : (sheet : Sheet) (o : Option Command) → IsSheet sheet → IfAny IsHere o → IfAny IsNumber (final_stamp script.topology sheet o)
+  final_fit sheet None sound ours = tt
+  final_fit sheet (Some c) sound ours = final_number script.topology sheet c me.partition.0
+      (own_partition script accepted in_quorum me here) ours.accesses sound.known
+
+  learned_fit : (id : CommandId) (q t : ℕ) (sheet : Sheet) (state : ProcessState) → IsSound state → IsSheet sheet
+      → sheet.proposal ≡ (state.sheets id).proposal → IsNumber t → Goes (learned script.topology me id q t sheet state)
+  learned_fit id q t sheet state sound new same number =
+      let known : Sheet = with_stamp q t sheet in
+      let known_sound : IsSheet known = with_stamp_sound script me.partition.0 q t sheet number new in
+      cond_both (is_some (stamp_of sheet q)) (with_sheet id sheet state, [])
+      (finished me id known known.command (final_stamp script.topology known known.command) state) Goes
+      (λ there room. (with_sheet_sound script me.partition.0 id sheet state sound new same, tt))
+      (λ not_there. finished_fit id known known.command (final_stamp script.topology known known.command) state sound known_sound same
+      known_sound.command (final_fit known known.command known_sound known_sound.command))
+
+  decided_fit : (id : CommandId) (t : ℕ) (sheet : Sheet) (state : ProcessState) → IsSound state → IsSheet sheet
+      → sheet.proposal ≡ (state.sheets id).proposal → IsNumber t → Goes (decided script.topology me id t sheet state)
+  decided_fit id t sheet state sound new same number room =
+      let moved : Moved = learned script.topology me id me.partition.0 t sheet state in
+      let settled : IsSettled moved = learned_fit id me.partition.0 t sheet state sound new same number room in (
+        settled.0,
+        each_append (IsFit script) (commits script.topology me sheet.command t) moved.1
+            (commits_fit script accepted in_quorum me here sheet.command t new.command number) settled.1,
+      )
+
+  chosen_fit : (id : CommandId) (choice : FastChoice) (sheet : Sheet) (state : ProcessState) → IsSound state → IsSheet sheet
+      → sheet.proposal ≡ (state.sheets id).proposal → IsChoiceInRange choice → Goes (chosen setting me id choice sheet state)
+  chosen_fit id (Fast t) sheet state sound new same number room = decided_fit id t.0 sheet state sound new same number room
+  chosen_fit id (Slow t) sheet state sound new same number room = (
+    with_sheet_sound script me.partition.0 id (putting script.topology me.rank.0 t.0 sheet) state sound
+        (putting_sound script me.partition.0 me.rank.0 t.0 sheet new) same,
+    votes_fit script accepted in_quorum me here me.rank.0 t.0 sheet.command new.command (own_ballot script accepted in_quorum me here) number,
+  )
+
+  gathered_fit : (id : CommandId) (sheet : Sheet) (state : ProcessState) → IsSound state → IsSheet sheet
+      → sheet.proposal ≡ (state.sheets id).proposal → Goes (gathered setting me id sheet state)
+  gathered_fit id sheet state sound new same =
+      let choice : FastChoice = fast_choice script.topology (present sheet.acknowledged) in
+      cond_both (is_full script.topology sheet) (chosen setting me id choice sheet state) (with_sheet id sheet state, []) Goes
+      (λ full.
+      let as_many : length (present sheet.acknowledged) ≡ fast_size script.topology = eqb-true _ _ full in
+      chosen_fit id choice sheet state sound new same
+      (choice_number script.topology (present sheet.acknowledged) (present_fit IsNumber sheet.acknowledged new.acknowledged)
+      (omega (arith, accepted.shape.some_failure))))
+      (λ not_full room. (with_sheet_sound script me.partition.0 id sheet state sound new same, tt))
+
+  -- the rows
+
+  propose_ack_fit : (from : ActorName) (id : CommandId) (t : ℕ) (state : ProcessState) → IsSound state → IsNumber t
+      → Goes (on_propose_ack setting me from id t state)
+  propose_ack_fit from id t state sound number =
+      let sheet : Sheet = acknowledged (rank_of from) t (state.sheets id) in
+      cond_both (can_acknowledge setting me.partition.0 me.rank.0 (rank_of from) (state.sheets id))
+      (gathered setting me id sheet state) (state, []) Goes
+      (λ can. gathered_fit id sheet state sound
+      (acknowledged_sound script me.partition.0 (rank_of from) t (state.sheets id) number (sound.sheets id)) refl)
+      (λ cannot room. (sound, tt))
+
+  commit_fit : (c : Command) (q t : ℕ) (state : ProcessState) → IsSound state → IsHere c → IsNumber t
+      → Goes (on_commit setting me c q t state)
+  commit_fit c q t state sound ours number =
+      let sheet : Sheet = kept c (state.sheets c.id) in
+      cond_both (is_accessed script.topology.partitions c q) (learned script.topology me c.id q t sheet state) (state, []) Goes
+      (λ accesses. learned_fit c.id q t sheet state sound (kept_sound script me.partition.0 c (state.sheets c.id) ours (sound.sheets c.id)) refl number)
+      (λ elsewhere room. (sound, tt))
+
+  payload_fit : (c : Command) (state : ProcessState) → IsSound state → IsHere c → Goes (on_payload c state)
+  payload_fit c state sound ours room = (
+    with_sheet_sound script me.partition.0 c.id (kept c (state.sheets c.id)) state sound
+        (kept_sound script me.partition.0 c (state.sheets c.id) ours (sound.sheets c.id)) refl,
+    tt,
+  )
+
+  -- the stamp of a proposal is in range where there is room
+  stamp_number : (floor : ℕ) (state : ProcessState) → next_stamp floor state < LIMIT → IsNumber (next_stamp floor state)
+  stamp_number floor state room = (omega arith, omega arith)
+
+  id_ours : (c : Command) → IsHere c → IsIn c.id (ids_of script)
+  id_ours c ours = map_in (λ (d : Command). d.id) script.commands c ours.ours
+
+  -- the sheet of a proposal
+  proposal_sound : (c : Command) (t : ℕ) (sheet : Sheet) → IsHere c → IsSheet sheet → IsSheet (with_proposal t Proposal (kept c sheet))
+  proposal_sound c t sheet ours sound =
+      with_proposal_sound script me.partition.0 t Proposal (kept c sheet) (kept_sound script me.partition.0 c sheet ours sound)
+
+  no_proposal : (c : Command) (state : ProcessState) → is_fresh me.partition.0 (state.sheets c.id) ≡ true
+      → is_none (state.sheets c.id).proposal ≡ true
+  no_proposal c state fresh =
+      let sheet : Sheet = state.sheets c.id in
+      (and_parts (is_none sheet.proposal) (sheet.ballot == 0)
+      (and_parts (is_none sheet.proposal && (sheet.ballot == 0)) (is_none (stamp_of sheet me.partition.0)) fresh).0).0
+
+  submitted_fit : (c : Command) (state : ProcessState) → IsSound state → IsHere c → is_none (state.sheets c.id).proposal ≡ true
+      → Goes (submitted setting me c (next_stamp 0 state) (state.sheets c.id) state)
+  submitted_fit c state sound ours fresh room =
+      let t : ℕ = next_stamp 0 state in
+      let number : IsNumber t = stamp_number 0 state room in
+      let sheet : Sheet = state.sheets c.id in
+      let proposal : Sheet = with_proposal t Proposal (kept c sheet) in
+      let own : Sheet = acknowledged_own setting me.partition.0 me.rank.0 t proposal in
+      let can : Bool = can_acknowledge setting me.partition.0 me.rank.0 me.rank.0 proposal in
+      let new : IsSheet proposal = proposal_sound c t sheet ours (sound.sheets c.id) in
+      let own_sound : IsSheet own = cond_both can (acknowledged me.rank.0 t proposal) proposal IsSheet
+      (λ b. acknowledged_sound script me.partition.0 me.rank.0 t proposal number new) (λ b. new) in
+      let own_proposed : is_none own.proposal ≡ false = cond_both can (acknowledged me.rank.0 t proposal) proposal
+      (λ (s : Sheet). is_none s.proposal ≡ false) (λ b. refl) (λ b. refl) in (
+        proposing_sound script me.partition.0 c.id t own state sound room (omega arith) (id_ours c ours) fresh own_sound own_proposed,
+        each_append (IsFit script) (proposals setting me c t) (bumps script.topology me (command_or c sheet) t)
+            (proposals_fit script accepted in_quorum me here c t ours number)
+            (bumps_fit script accepted in_quorum me here (command_or c sheet) t
+            (command_or_here script me.partition.0 c sheet ours (sound.sheets c.id)) number),
+      )
+
+  submit_fit : (c : Command) (state : ProcessState) → IsSound state → IsHere c → Goes (on_submit setting me c state)
+  submit_fit c state sound ours =
+      let fresh : Bool = is_fresh me.partition.0 (state.sheets c.id) in
+      cond_both ((c.home.0 == me.rank.0) && fresh)
+      (submitted setting me c (next_stamp 0 state) (state.sheets c.id) state) (state, []) Goes
+      (λ t. submitted_fit c state sound ours (no_proposal c state (and_parts (c.home.0 == me.rank.0) fresh t).1))
+      (λ f room. (sound, tt))
+
+  proposed_fit : (from : ActorName) (c : Command) (floor : ℕ) (state : ProcessState) → IsSound state → IsProcess from → IsHere c
+      → is_none (state.sheets c.id).proposal ≡ true
+      → Goes (proposed setting me from c (next_stamp floor state) (state.sheets c.id) state)
+  proposed_fit from c floor state sound is_process ours fresh room =
+      let t : ℕ = next_stamp floor state in
+      let number : IsNumber t = stamp_number floor state room in
+      let sheet : Sheet = state.sheets c.id in
+      let range : IsCommand c = is_command script accepted in_quorum me here c ours in (
+        proposing_sound script me.partition.0 c.id t (with_proposal t Proposal (kept c sheet)) state sound room (omega arith) (id_ours c ours) fresh
+            (proposal_sound c t sheet ours (sound.sheets c.id)) refl,
+        (
+          record { range = (own_site script accepted in_quorum me here, is_process, range.0, number); ours = tt },
+          bumps_fit script accepted in_quorum me here (command_or c sheet) t
+              (command_or_here script me.partition.0 c sheet ours (sound.sheets c.id)) number,
+        ),
+      )
+
+  propose_fit : (from : ActorName) (c : Command) (floor : ℕ) (state : ProcessState) → IsSound state → IsProcess from → IsHere c
+      → Goes (on_propose setting me from c floor state)
+  propose_fit from c floor state sound is_process ours =
+      cond_both (is_fresh me.partition.0 (state.sheets c.id))
+      (proposed setting me from c (next_stamp floor state) (state.sheets c.id) state) (state, []) Goes
+      (λ t. proposed_fit from c floor state sound is_process ours (no_proposal c state t))
+      (λ f room. (sound, tt))
+
+  announce_fit : (state : ProcessState) → IsSound state → IsSettled (on_announce script.topology me state)
+  announce_fit state sound =
+      cond_both (nat_lt state.told state.clock)
+      (record { clock = state.clock; told = state.clock; attached = state.attached; sheets = state.sheets }, announced script.topology me state)
+      (state, []) IsSettled
+      (λ t. (
+        record {
+          clock = sound.clock;
+          promises = sound.promises;
+          ours = sound.ours;
+          once = sound.once;
+          proposed = sound.proposed;
+          sheets = sound.sheets;
+        },
+        announced_fit script accepted in_quorum me here state sound (ltb-true state.told state.clock t),
+      ))
+      (λ f. (sound, tt))
+
+  -- a message brings a command that accesses the partition
+  brought : (c : Command) → IsIn c script.commands
+      → (is_between c.home.0 script.topology.replicas && is_accessed script.topology.partitions c me.partition.0) ≡ true → IsHere c
+  brought c ours at =
+      let both = and_parts (is_between c.home.0 script.topology.replicas) (is_accessed script.topology.partitions c me.partition.0) at in
+      record { ours = ours; accesses = both.1 }
+
+  commit_brought : (c : Command) (q : ℕ) → IsIn c script.commands
+      → (is_between c.home.0 script.topology.replicas && is_accessed script.topology.partitions c me.partition.0
+      && is_between q script.topology.partitions) ≡ true → IsHere c
+  commit_brought c q ours at = brought c ours (and_parts _ (is_between q script.topology.partitions) at).0
+
+  body_fit : (from to : ActorName) (body : Body) (state : ProcessState) → IsSound state → IsBody from to body → IsBodyOf script body
+      → is_body_at script.topology me.partition.0 body ≡ true → Goes (on_body setting me from body state)
+  body_fit from to (MSubmit c) state sound range ours at room = submit_fit c state sound (brought c ours at) room
+  body_fit from to (MPropose c floor) state sound range ours at room = propose_fit from c floor.0 state sound range.0 (brought c ours at) room
+  body_fit from to (MPayload c) state sound range ours at room = payload_fit c state sound (brought c ours at) room
+  body_fit from to (MProposeAck id t) state sound range ours at room = propose_ack_fit from id t.0 state sound range.3 room
+  body_fit from to (MCommit c q t) state sound range ours at room = commit_fit c q.0 t.0 state sound (commit_brought c q.0 ours at) range.4 room
+  body_fit from to _ state sound range ours at room = (sound, tt)
+
+  -- what it keeps and sends
+  pub process_fit : (act : Act) (state : ProcessState) → IsFitAct script act → IsSound state
+      → IsSettled (react setting me act state)
+  process_fit (Took m) state fit sound =
+      let to_me : Bool = same_name m.to (Process me) in
+      let named : Bool = is_name_of script.topology m.from in
+      let at : Bool = is_body_at script.topology me.partition.0 m.body in
+      let moved : Moved = on_body setting me m.from m.body state in
+      cond_both (to_me && named && at) (with_room state moved) (state, []) IsSettled
+      (λ t. room_fit state moved sound (body_fit m.from m.to m.body state sound fit.range fit.ours (and_parts (to_me && named) at t).1))
+      (λ f. (sound, tt))
+  process_fit (Did Announce) state fit sound = announce_fit state sound
+  process_fit (Did _) state fit sound = (sound, tt)
+
+  pub process_sound : (acts : List Act) → Each (IsFitAct script) acts → IsSound (state_after setting me acts)
+  process_sound [] fits = start_sound script me.partition.0
+  process_sound (act ∷ before) fits =
+      (process_fit act (state_after setting me before) fits.0 (process_sound before fits.1)).0

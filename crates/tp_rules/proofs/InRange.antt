@@ -1,0 +1,60 @@
+-- Each message that a free run of an accepted script sends is in the ranges of the wire format, so it has bytes.
+use Rattle.std.proofs.Common.{List, subst}
+use Rattle.std.proofs.lemmas.List.{reverse-reverse}
+use Rattle.std.specs.Prelude.{reverse}
+use Rattle.tp_base.proofs.Each.{each_weaker}
+use Rattle.tp_base.specs.Lists.{Each}
+use Rattle.tp_base.specs.declared.names.ActorName.TheVariants.{Process, Executor, Session}
+use Rattle.tp_rules.proofs.EachSent.{HandsOn, entry_passes, history_passes, sent_passes}
+use Rattle.tp_rules.proofs.Fit.{IsFit}
+use Rattle.tp_rules.proofs.FitExecutors.{executor_fit, executor_sound}
+use Rattle.tp_rules.proofs.FitRules.{process_fit, process_sound}
+use Rattle.tp_rules.proofs.FitSessions.{session_fit}
+use Rattle.tp_rules.proofs.Selections.{each_turned}
+use Rattle.tp_rules.specs.Executor as executor
+use Rattle.tp_rules.specs.Journal.{client_of, sent}
+use Rattle.tp_rules.specs.Process as process
+use Rattle.tp_rules.specs.Session as session
+use Rattle.tp_rules.specs.Runs.{FollowsRules, IsFreeHistory, IsFreeRun}
+use Rattle.tp_rules.specs.Sheet.{Setting, ring_setting}
+use Rattle.tp_rules.specs.declared.event.Entry.{Entry}
+use Rattle.tp_rules.specs.declared.event.Parcel.{Parcel}
+use Rattle.tp_script.specs.Accepted.{IsAccepted}
+use Rattle.tp_script.specs.declared.script.Script.{Script}
+use Rattle.tp_wire.specs.Ranges.{IsInRange}
+
+module _ (script : Script) (accepted : IsAccepted script) where
+  fit_handed_on : HandsOn script (IsFit script)
+  fit_handed_on (Process me) before act known took takes =
+      let setting : Setting = ring_setting script.topology in
+      (process_fit script accepted setting.in_quorum me known act (process.state_after setting me before) takes
+      (process_sound script accepted setting.in_quorum me known before took)).1
+  fit_handed_on (Executor me) before act known took takes =
+      (executor_fit script accepted me known act (executor.state_after script.topology me before) takes
+      (executor_sound script accepted me known before took)).1
+  fit_handed_on (Session s) before act known took takes =
+      session_fit script accepted s known act (session.state_after script.topology (client_of script s) before)
+
+  -- what the next entry sends
+  pub entry_in_range : (older : List Entry) (e : Entry) → IsFreeHistory script older → FollowsRules script older e → Each IsInRange e.outputs
+  entry_in_range older e history follows = each_weaker (IsFit script) IsInRange (λ m fit. fit.range) e.outputs
+      (entry_passes script (IsFit script) fit_handed_on older e (history_passes script (IsFit script) fit_handed_on older history) follows)
+
+  pub sent_fit : (older : List Entry) → IsFreeHistory script older → Each (λ parcel. IsFit script parcel.message) (sent older)
+  sent_fit older history = sent_passes script (IsFit script) older (history_passes script (IsFit script) fit_handed_on older history)
+
+  pub sent_in_range : (older : List Entry) → IsFreeHistory script older → Each (λ parcel. IsInRange parcel.message) (sent older)
+  sent_in_range older history =
+      each_weaker (λ (parcel : Parcel). IsFit script parcel.message) (λ parcel. IsInRange parcel.message) (λ parcel fit. fit.range)
+      (sent older) (sent_fit older history)
+
+  -- the same of a journal in its own order
+  pub run_in_range : (journal : List Entry) → IsFreeRun script journal → Each (λ e. Each IsInRange e.outputs) journal
+  unfolding IsFreeRun
+  run_in_range journal run =
+      let fits : Each (λ e. Each (IsFit script) e.outputs) (reverse journal) = history_passes script (IsFit script) fit_handed_on (reverse journal) run in
+      each_weaker (λ (e : Entry). Each (IsFit script) e.outputs) (λ e. Each IsInRange e.outputs)
+      (λ e fit. each_weaker (IsFit script) IsInRange (λ m f. f.range) e.outputs fit)
+      journal
+      (subst (Each (λ (e : Entry). Each (IsFit script) e.outputs)) (reverse-reverse journal)
+      (each_turned (λ (e : Entry). Each (IsFit script) e.outputs) (reverse journal) fits))
