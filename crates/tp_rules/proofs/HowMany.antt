@@ -1,5 +1,5 @@
 -- How many messages one act sends, at most: 63, for each shape. Used for the end of runs.
-use Rattle.std.proofs.Common.{◌≡◌, ℕ, zero, suc, ◌+◌, ◌*◌, ◌≤◌, List, [], ◌∷◌, ◌++◌, Option, Some, None, length, map, cond, refl, ap, ◌∙◌, arith}
+use Rattle.std.proofs.Common.{◌≡◌, ℕ, ◌*◌, ◌≤◌, List, [], Option, Some, None, length, map, cond, ap, ◌∙◌, arith}
 use Rattle.std.specs.Prelude.{filter, ◌==◌, ◌&&◌, nat_lt, not, is_some}
 use Rattle.std.specs.List.{flat_map}
 use Rattle.std.proofs.lemmas.Bool.{cond_both}
@@ -32,20 +32,9 @@ use Rattle.tp_topology.specs.Shape.{Shape, IsShape}
 use Rattle.tp_wire.specs.declared.message.Body.{Body}
 use Rattle.tp_wire.specs.declared.message.Body.TheVariants.{MSubmit, MPropose, MPayload, MProposeAck, MBump, MConsensus, MConsensusAck, MCommit, MRec, MRecAck, MPromises, MCommitted, MStable, MResult}
 use Rattle.tp_wire.specs.declared.message.Message.{Message}
+use Rattle.tp_rules.proofs.UpTo.{length-up_to, map_length, flat_length}
 use Rattle.tp_rules.proofs.Tallies.{filter_length}
 use Rattle.tp_rules.proofs.LaterKinds.{executor_silent, session_silent}
-
-pub length-up_to : (n : ℕ) → length (up_to n) ≡ n
-length-up_to zero = refl
-length-up_to (suc n) = let rest = length-up_to n in let both : length (up_to n ++ suc n ∷ []) ≡ length (up_to n) + 1 = length-append (up_to n) (suc n ∷ []) in omega arith
-
-pub flat_length : {X Y : Type 0} (f : X → List Y) (n : ℕ) (xs : List X) → ((x : X) → length (f x) ≤ n) → length (flat_map f xs) ≤ length xs * n
-flat_length f n [] h = omega arith
-flat_length f n (x ∷ xs) h = omega (arith, length-append (f x) (flat_map f xs), h x, flat_length f n xs h)
-
-pub map_length : {X Y : Type 0} (f : X → Y) (xs : List X) → length (map f xs) ≡ length xs
-map_length f [] = refl
-map_length f (x ∷ xs) = ap (λ (n : ℕ). suc n) (map_length f xs)
 
 to_each_length : (from : ActorName) (names : List ActorName) (body : Body) → length (to_each from names body) ≡ length names
 to_each_length from names body = map_length (λ to. message from to body) names

@@ -34,6 +34,7 @@ pub mod NoPlan
 pub mod OwnSteps
 pub mod Parcels
 pub mod Provenance
+pub mod RunsEnd
 pub mod Selections
 pub mod SendsOfProcess
 pub mod SitesCounted
@@ -43,4 +44,5 @@ pub mod Undelivered
 pub mod Unentered
 pub mod Unexecuted
 pub mod Unsubmitted
+pub mod UpTo
 pub mod Weights

@@ -1,11 +1,11 @@
 -- How many processes have a clock above what they told: an announcement takes one away, and only what changes a process adds
 -- to it. Used for the end of runs.
-use Rattle.std.proofs.Common.{◌≡◌, ℕ, zero, suc, ◌+◌, ◌<◌, ◌≤◌, inl, inr, Bool, true, false, List, [], ◌∷◌, Some, length, refl, sym, ap, subst, ◌∙◌, arith}
+use Rattle.std.proofs.Common.{◌≡◌, ℕ, ◌+◌, ◌<◌, ◌≤◌, Bool, true, false, List, [], ◌∷◌, Some, length, refl, sym, ap, subst, ◌∙◌, arith}
 use Rattle.std.specs.Prelude.{◌&&◌, nat_lt, nat_le}
-use Rattle.std.proofs.lemmas.Bool.{cond_both, cases_eq, le-ltb, leb-true, and_parts}
+use Rattle.std.proofs.lemmas.Bool.{cond_both, le-ltb, leb-true, and_parts}
 use Rattle.tp_base.specs.Lists.{IsIn}
 use Rattle.tp_base.specs.Names.{same_name}
-use Rattle.tp_base.proofs.Members.{in_left, in_right, map_in, flat_in}
+use Rattle.tp_base.proofs.Members.{map_in, flat_in}
 use Rattle.tp_base.specs.declared.names.ActorName.{ActorName}
 use Rattle.tp_base.specs.declared.names.ActorName.TheVariants.{Process}
 use Rattle.tp_base.specs.declared.names.Site.{Site}
@@ -25,19 +25,12 @@ use Rattle.tp_topology.specs.Counting.{up_to}
 use Rattle.tp_topology.specs.Shape.{Shape, IsShape}
 use Rattle.tp_wire.specs.declared.message.Body.{Body}
 use Rattle.tp_wire.specs.declared.message.Body.TheVariants.{MSubmit, MPropose, MPayload, MProposeAck, MBump, MConsensus, MConsensusAck, MCommit, MRec, MRecAck, MPromises, MCommitted, MStable, MResult}
-use Rattle.tp_rules.proofs.ActsMore.{acts_step, acts_here}
-use Rattle.tp_rules.proofs.HowMany.{length-up_to, flat_length, map_length}
+use Rattle.tp_rules.proofs.ActsMore.{acts_step, acts_then}
+use Rattle.tp_rules.proofs.UpTo.{length-up_to, map_length, flat_length, in_up_to}
 use Rattle.tp_rules.proofs.OwnSteps.{announce_may}
 use Rattle.tp_rules.proofs.Tallies.{fewer, one_fewer, filter_length}
 
 -- sites
-
-in_up_to : (n k : ℕ) → 1 ≤ k → k ≤ n → IsIn k (up_to n)
-in_up_to zero k low high = absurd (omega arith)
-in_up_to (suc n) k low high = elim (cases_eq k (suc n)) [
-  | inl same ↦ in_right (up_to n) (suc n ∷ []) k (inl same)
-  | inr apart ↦ in_left (up_to n) (suc n ∷ []) k (in_up_to n k low (omega arith))
-]
 
 pub site_listed : (script : Script) (s : Site) → is_site_of script.topology s ≡ true → IsIn s (sites_of script)
 site_listed script s e =
@@ -128,7 +121,7 @@ falls_at : (script : Script) (older : List Entry) (e : Entry) (s : Site) → e.a
     has_untold script older s ≡ true → unannounced script (e ∷ older) < unannounced script older
 falls_at script older e s actor listed event before =
     let setting = ring_setting script.topology in
-    let list : acts (e ∷ older) (Process s) ≡ Did Announce ∷ acts older (Process s) = acts_here older e (Process s) (Did Announce) actor (ap (act_of older) event) in
+    let list : acts (e ∷ older) (Process s) ≡ Did Announce ∷ acts older (Process s) = acts_then older e (Process s) (Did Announce) actor (ap (act_of older) event) in
     let told : has_untold script (e ∷ older) s ≡ false =
     ap (λ (l : List Act). untold (process.state_after setting s l)) list ∙ announced_all script.topology s (process.state_after setting s (acts older (Process s))) in
     let none : (act : Act) → act_of older e.event ≡ Some act → AddsNone act =

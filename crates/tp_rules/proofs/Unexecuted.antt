@@ -25,7 +25,7 @@ use Rattle.tp_script.specs.declared.script.Script.{Script}
 use Rattle.tp_topology.specs.Shape.{Shape}
 use Rattle.tp_wire.specs.declared.message.Body.{Body}
 use Rattle.tp_wire.specs.declared.message.Body.TheVariants.{MSubmit, MPropose, MPayload, MProposeAck, MBump, MConsensus, MConsensusAck, MCommit, MRec, MRecAck, MPromises, MCommitted, MStable, MResult}
-use Rattle.tp_rules.proofs.ActsMore.{acts_step, acts_here}
+use Rattle.tp_rules.proofs.ActsMore.{acts_step, acts_then}
 use Rattle.tp_rules.proofs.OwnSteps.{execute_may}
 use Rattle.tp_rules.proofs.Provenance.{IsOf, committed_provenance}
 use Rattle.tp_rules.proofs.Tallies.{fewer, one_fewer, filter_in, lower_total, less_total}
@@ -129,7 +129,7 @@ falls_by : (script : Script) (older : List Entry) (e : Entry) (s : Site) (c : ex
 falls_by script older e s c id listed actor event least of_script own waits =
     let before = (executor_of script older s).executed in
     let after = (executor_of script (e ∷ older) s).executed in
-    let list : acts (e ∷ older) (Executor s) ≡ Did (Execute id) ∷ acts older (Executor s) = acts_here older e (Executor s) (Did (Execute id)) actor (ap (act_of older) event) in
+    let list : acts (e ∷ older) (Executor s) ≡ Did (Execute id) ∷ acts older (Executor s) = acts_then older e (Executor s) (Did (Execute id)) actor (ap (act_of older) event) in
     let state : after ≡ c.command.id ∷ before =
     ap (λ (l : List Act). (executor.state_after script.topology s l).executed) list
     ∙ ap (λ (o : Option executor.Committed). (executor.execute_least script.topology s o (executor_of script older s)).0.executed) least in

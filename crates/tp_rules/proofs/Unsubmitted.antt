@@ -1,8 +1,8 @@
 -- How many commands aren't submitted: an entry never adds to it, and a submission takes one away. Used for the end of runs.
-use Rattle.std.proofs.Common.{◌≡◌, ℕ, zero, suc, ◌+◌, ◌<◌, ◌≤◌, inl, inr, true, false, List, [], ◌∷◌, ◌++◌, Some, length, map, refl, sym, ap, subst, ◌∙◌, arith}
+use Rattle.std.proofs.Common.{◌≡◌, ℕ, suc, ◌+◌, ◌<◌, ◌≤◌, inl, inr, true, false, List, [], ◌∷◌, Some, length, map, refl, sym, ap, subst, ◌∙◌, arith}
 use Rattle.std.specs.Prelude.{◌==◌, ◌&&◌, not, slice_get}
 use Rattle.std.specs.List.{list_any}
-use Rattle.std.proofs.lemmas.Bool.{cond_both, cases_lt, eq-eqb, eqb-true, and_parts, and_from, or_left, or_cases, or_parts, not-true, not_from_true, not_from_false, false_from_ne_true}
+use Rattle.std.proofs.lemmas.Bool.{cond_both, eq-eqb, eqb-true, and_parts, and_from, or_left, or_cases, or_parts, not-true, not_from_true, not_from_false, false_from_ne_true}
 use Rattle.tp_base.specs.Lists.{IsIn}
 use Rattle.tp_base.specs.Names.{same_name}
 use Rattle.tp_base.proofs.Members.{in_get}
@@ -32,10 +32,9 @@ use Rattle.tp_topology.specs.Shape.{Shape}
 use Rattle.tp_wire.specs.declared.message.Body.{Body}
 use Rattle.tp_wire.specs.declared.message.Body.TheVariants.{MSubmit, MPropose, MPayload, MProposeAck, MBump, MConsensus, MConsensusAck, MCommit, MRec, MRecAck, MPromises, MCommitted, MStable, MResult}
 use Rattle.tp_wire.specs.declared.message.Message.{Message}
-use Rattle.tp_rules.proofs.ActsMore.{acts_step, acts_here, delivered_act}
-use Rattle.tp_rules.proofs.HowMany.{length-up_to}
+use Rattle.tp_rules.proofs.ActsMore.{acts_step, acts_then, delivered_act}
+use Rattle.tp_rules.proofs.UpTo.{get_there, get_map, get_up_to}
 use Rattle.tp_rules.proofs.OwnSteps.{session_may, submit_may}
-use Rattle.tp_base.proofs.Ends.{slice_get_left, slice_get_push}
 use Rattle.tp_rules.proofs.Tallies.{fewer, one_fewer, filter_in}
 
 pub unsubmitted_stays : (script : Script) (older : List Entry) (e : Entry) → unsubmitted script (e ∷ older) ≤ unsubmitted script older
@@ -123,7 +122,7 @@ submitted_covers script (x ∷ older) id h e = elim (or_cases (is_submission_of 
       let parts = and_parts (same_name x.actor (Session id.session)) (is_submit id.number x.event) here in
       let event : x.event ≡ OfItself (Submit id.number) = submit_event id.number x.event parts.1 in
       let list : acts (x ∷ older) (Session id.session) ≡ Did (Submit id.number) ∷ acts older (Session id.session) =
-      acts_here older x (Session id.session) (Did (Submit id.number)) (same_name_is x.actor (Session id.session) parts.0) (ap (act_of older) event) in
+      acts_then older x (Session id.session) (Did (Submit id.number)) (same_name_is x.actor (Session id.session) parts.0) (ap (act_of older) event) in
       let count : submitted_by script (x ∷ older) id.session ≡ id.number =
       ap (λ (l : List Act). (session.state_after script.topology (client_of script id.session) l).submitted) list in
       omega arith
@@ -132,26 +131,6 @@ submitted_covers script (x ∷ older) id h e = elim (or_cases (is_submission_of 
 
 some_parts : {m n : ℕ} → Some m ≡ Some n → m ≡ n
 some_parts e = cc
-
-get_there : {X : Type 0} (xs : List X) (i : ℕ) → i < length xs → (x : X) × (slice_get xs i ≡ Some x)
-get_there [] i less = absurd (omega arith)
-get_there (x ∷ xs) zero less = (x, refl)
-get_there (x ∷ xs) (suc i) less = get_there xs i (omega arith)
-
-get_map : {X Y : Type 0} (f : X → Y) (xs : List X) (i : ℕ) (x : X) → slice_get xs i ≡ Some x → slice_get (map f xs) i ≡ Some (f x)
-get_map f [] i x e = absurd cc
-get_map f (y ∷ ys) zero x e = let same : y ≡ x = cc in ap (λ (z : _). Some (f z)) same
-get_map f (y ∷ ys) (suc i) x e = get_map f ys i x e
-
-get_up_to : (n i : ℕ) → i < n → slice_get (up_to n) i ≡ Some (suc i)
-get_up_to zero i less = absurd (omega arith)
-get_up_to (suc n) i less = elim (cases_lt i n) [
-  | inl before ↦ slice_get_left (up_to n) (suc n ∷ []) i (omega (arith, length-up_to n)) ∙ get_up_to n i before
-  | inr last ↦
-      let place : i ≡ length (up_to n) = omega (arith, length-up_to n) in
-      let value : n ≡ i = omega arith in
-      ap (slice_get (up_to n ++ suc n ∷ [])) place ∙ slice_get_push (up_to n) (suc n) ∙ ap (λ (k : ℕ). Some (suc k)) value
-]
 
 -- the commands of a session are numbered from 1
 pub command_numbered : (script : Script) → IsAccepted script → (s : SessionId) (k : ℕ) → k < length (commands_of script s) →
