@@ -35,6 +35,7 @@ pub delivered_act : (older : List Entry) (entry place : ℕ) (act : Act) → act
     (m : Message) × (output_at older entry place ≡ Some m) × (act ≡ Took m)
 delivered_act older entry place act e = of_output (output_at older entry place) refl e
   where
-    of_output : (o : Option Message) → output_at older entry place ≡ o → option_map Took o ≡ Some act → (m : Message) × (output_at older entry place ≡ Some m) × (act ≡ Took m)
+    of_output : (o : Option Message) → output_at older entry place ≡ o → option_map Took o ≡ Some act →
+        (m : Message) × (output_at older entry place ≡ Some m) × (act ≡ Took m)
     of_output None is f = absurd cc
     of_output (Some m) is f = (m, is, cc)

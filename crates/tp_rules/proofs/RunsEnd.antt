@@ -12,7 +12,8 @@ use Rattle.std.proofs.lemmas.List.{length-reverse}
 use Rattle.tp_base.proofs.Ends.{reverse_push}
 use Rattle.tp_rules.proofs.LeftFalls.{left_falls}
 
-history_ends : (script : Script) → IsAccepted script → (older : List Entry) → IsHistory script older → left script older + length older ≤ left script []
+history_ends : (script : Script) → IsAccepted script → (older : List Entry) → IsHistory script older →
+    left script older + length older ≤ left script []
 history_ends script accepted [] h = omega arith
 history_ends script accepted (e ∷ older) h = omega (arith, left_falls script older e accepted h, history_ends script accepted older h.0)
 
@@ -25,6 +26,7 @@ left_after script accepted journal e run =
     let history : IsHistory script (e ∷ reverse journal) = subst (IsHistory script) turned run in
     subst (λ (l : List Entry). left script l < left script (reverse journal)) (sym turned) (left_falls script (reverse journal) e accepted history)
 
-pub run_ends : (script : Script) → IsAccepted script → (journal : List Entry) → IsRun script journal → left script (reverse journal) + length journal ≤ left script []
+pub run_ends : (script : Script) → IsAccepted script → (journal : List Entry) → IsRun script journal →
+    left script (reverse journal) + length journal ≤ left script []
 unfolding IsRun
 run_ends script accepted journal run = omega (arith, history_ends script accepted (reverse journal) run, length-reverse journal)

@@ -47,8 +47,10 @@ unsubmitted_stays script older e =
 abbrev pub submitted_by : Script → List Entry → SessionId → ℕ
 submitted_by script older s = (session.state_after script.topology (client_of script s) (acts older (Session s))).submitted
 
-row_keeps_submitted : (shape : Shape) (client : Client) (body : Body) (state : session.SessionState) → (session.on_body shape client body state).0.submitted ≡ state.submitted
-row_keeps_submitted shape client (MResult id q answers) state = cond_both _ _ _ (λ (moved : session.Moved). moved.0.submitted ≡ state.submitted) (λ e. refl) (λ e. refl)
+row_keeps_submitted : (shape : Shape) (client : Client) (body : Body) (state : session.SessionState) →
+    (session.on_body shape client body state).0.submitted ≡ state.submitted
+row_keeps_submitted shape client (MResult id q answers) state =
+    cond_both _ _ _ (λ (moved : session.Moved). moved.0.submitted ≡ state.submitted) (λ e. refl) (λ e. refl)
 row_keeps_submitted shape client (MSubmit c) state = refl
 row_keeps_submitted shape client (MPropose c floor) state = refl
 row_keeps_submitted shape client (MPayload c) state = refl
@@ -63,7 +65,8 @@ row_keeps_submitted shape client (MPromises lo hi pairs) state = refl
 row_keeps_submitted shape client (MCommitted c t) state = refl
 row_keeps_submitted shape client (MStable id) state = refl
 
-message_keeps_submitted : (shape : Shape) (client : Client) (m : Message) (state : session.SessionState) → (session.react shape client (Took m) state).0.submitted ≡ state.submitted
+message_keeps_submitted : (shape : Shape) (client : Client) (m : Message) (state : session.SessionState) →
+    (session.react shape client (Took m) state).0.submitted ≡ state.submitted
 message_keeps_submitted shape client m state =
     cond_both (same_name m.to (Session client.session) && is_name_of shape m.from && is_body_at shape 0 m.body)
     (session.on_body shape client m.body state) (state, []) (λ (moved : session.Moved). moved.0.submitted ≡ state.submitted)
@@ -73,7 +76,8 @@ message_keeps_submitted shape client m state =
 abbrev submitted_then : Script → List Entry → SessionId → Act → ℕ
 submitted_then script older s act = (session.state_after script.topology (client_of script s) (act ∷ acts older (Session s))).submitted
 
-by_step : (script : Script) (older : List Entry) (s : SessionId) (inner : Inner) → MayMake (identity_in script (Session s)) (acts older (Session s)) inner →
+by_step : (script : Script) (older : List Entry) (s : SessionId) (inner : Inner) →
+    MayMake (identity_in script (Session s)) (acts older (Session s)) inner →
     submitted_by script older s ≤ submitted_then script older s (Did inner)
 by_step script older s (Submit n) may =
     let state = session.state_after script.topology (client_of script s) (acts older (Session s)) in
@@ -87,20 +91,25 @@ by_step script older s (Declare id) may = omega arith
 by_step script older s (Execute id) may = omega arith
 by_step script older s Crash may = omega arith
 
-by_event : (script : Script) (older : List Entry) (s : SessionId) (event : Event) (act : Act) → MayHappen script older (Session s) event → act_of older event ≡ Some act →
+by_event : (script : Script) (older : List Entry) (s : SessionId) (event : Event) (act : Act) → MayHappen script older (Session s) event →
+    act_of older event ≡ Some act →
     submitted_by script older s ≤ submitted_then script older s act
 by_event script older s (Deliver entry place) act may is =
     let found = delivered_act older entry place act is in
     let state = session.state_after script.topology (client_of script s) (acts older (Session s)) in
-    let stays : (session.react script.topology (client_of script s) (Took found.0) state).0.submitted ≡ state.submitted = message_keeps_submitted script.topology (client_of script s) found.0 state in
+    let stays : (session.react script.topology (client_of script s) (Took found.0) state).0.submitted ≡ state.submitted =
+    message_keeps_submitted script.topology (client_of script s) found.0 state in
     subst (λ (a : Act). submitted_by script older s ≤ submitted_then script older s a) (sym found.2) (omega arith)
 by_event script older s (Dropped entry place) act may is = absurd cc
 by_event script older s (OfItself inner) act may is =
-    let same : Did inner ≡ act = cc in subst (λ (a : Act). submitted_by script older s ≤ submitted_then script older s a) same (by_step script older s inner may)
+    let same : Did inner ≡ act =
+    cc in subst (λ (a : Act). submitted_by script older s ≤ submitted_then script older s a) same (by_step script older s inner may)
 
-submitted_grows : (script : Script) (older : List Entry) (e : Entry) (s : SessionId) → FollowsRules script older e → submitted_by script older s ≤ submitted_by script (e ∷ older) s
+submitted_grows : (script : Script) (older : List Entry) (e : Entry) (s : SessionId) → FollowsRules script older e →
+    submitted_by script older s ≤ submitted_by script (e ∷ older) s
 submitted_grows script older e s follows =
-    acts_step (λ (list : List Act). submitted_by script older s ≤ (session.state_after script.topology (client_of script s) list).submitted) older e (Session s) (omega arith)
+    acts_step (λ (list : List Act). submitted_by script older s ≤ (session.state_after script.topology (client_of script s) list).submitted) older e
+    (Session s) (omega arith)
     (λ act same is. by_event script older s e.event act (subst (λ (a : ActorName). MayHappen script older a e.event) same follows.may) is)
 
 submit_event : (n : ℕ) (event : Event) → is_submit n event ≡ true → event ≡ OfItself (Submit n)
@@ -114,7 +123,8 @@ submit_event n (OfItself (Execute id)) e = absurd cc
 submit_event n (OfItself Crash) e = absurd cc
 
 -- the number of a submitted command is among those that its session has submitted
-pub submitted_covers : (script : Script) (older : List Entry) (id : CommandId) → IsFreeHistory script older → list_any (is_submission_of id) older ≡ true →
+pub submitted_covers : (script : Script) (older : List Entry) (id : CommandId) → IsFreeHistory script older →
+    list_any (is_submission_of id) older ≡ true →
     id.number ≤ submitted_by script older id.session
 submitted_covers script [] id h e = absurd cc
 submitted_covers script (x ∷ older) id h e = elim (or_cases (is_submission_of id x) (list_any (is_submission_of id) older) e) [
@@ -137,21 +147,25 @@ pub command_numbered : (script : Script) → IsAccepted script → (s : SessionI
     (c : Command) × IsIn c script.commands × (c.id.session ≡ s) × (c.id.number ≡ suc k)
 command_numbered script accepted s k less = of_found (get_there (commands_of script s) k less)
   where
-    of_found : (c : Command) × (slice_get (commands_of script s) k ≡ Some c) → (c : Command) × IsIn c script.commands × (c.id.session ≡ s) × (c.id.number ≡ suc k)
+    of_found : (c : Command) × (slice_get (commands_of script s) k ≡ Some c) →
+        (c : Command) × IsIn c script.commands × (c.id.session ≡ s) × (c.id.number ≡ suc k)
     of_found (c, e) =
         let cs = commands_of script s in
-        let numbers : slice_get (map (λ (d : Command). d.id.number) cs) k ≡ slice_get (up_to (length cs)) k = ap (λ (l : List ℕ). slice_get l k) (accepted.numbered s.0) in
+        let numbers : slice_get (map (λ (d : Command). d.id.number) cs) k ≡ slice_get (up_to (length cs)) k =
+        ap (λ (l : List ℕ). slice_get l k) (accepted.numbered s.0) in
         let one : slice_get (map (λ (d : Command). d.id.number) cs) k ≡ Some c.id.number = get_map (λ (d : Command). d.id.number) cs k c e in
         let two : slice_get (up_to (length cs)) k ≡ Some (suc k) = get_up_to (length cs) k less in
         let member = filter_in (λ (d : Command). d.id.session.0 == s.0) script.commands c (in_get cs k c e) in
         (c, member.0, ap (λ (i : ℕ). let id : SessionId = record { 0 = i } in id) (eqb-true c.id.session.0 s.0 member.1), some_parts (sym one ∙ numbers ∙ two))
 
 falls_by : (script : Script) (older : List Entry) (e : Entry) (s : SessionId) (c : Command) (n : ℕ) → IsFreeHistory script older →
-    e.actor ≡ Session s → e.event ≡ OfItself (Submit n) → n ≡ submitted_by script older s + 1 → IsIn c script.commands → c.id.session ≡ s → c.id.number ≡ n →
+    e.actor ≡ Session s → e.event ≡ OfItself
+    (Submit n) → n ≡ submitted_by script older s + 1 → IsIn c script.commands → c.id.session ≡ s → c.id.number ≡ n →
     unsubmitted script (e ∷ older) < unsubmitted script older
 falls_by script older e s c n history actor event count member own number =
     let by : same_name e.actor (Session c.id.session) ≡ true =
-    ap (λ (a : ActorName). same_name a (Session c.id.session)) (actor ∙ ap (λ (x : SessionId). Session x) (sym own)) ∙ same_name_refl (Session c.id.session) in
+    ap (λ (a : ActorName). same_name a (Session c.id.session)) (actor ∙ ap (λ (x : SessionId). Session x) (sym own)) ∙ same_name_refl
+    (Session c.id.session) in
     let of_it : is_submit c.id.number e.event ≡ true = ap (is_submit c.id.number) event ∙ eq-eqb c.id.number n number in
     let submits : is_submission_of c.id e ≡ true = and_from (same_name e.actor (Session c.id.session)) (is_submit c.id.number e.event) by of_it in
     let same : submitted_by script older c.id.session ≡ submitted_by script older s = ap (submitted_by script older) own in
@@ -164,7 +178,8 @@ falls_by script older e s c n history actor event count member own number =
     (not_from_true (list_any (is_submission_of c.id) (e ∷ older)) (or_left (is_submission_of c.id e) (list_any (is_submission_of c.id) older) submits))
 
 -- a submission is of a command that was not submitted
-pub unsubmitted_falls : (script : Script) → IsAccepted script → (older : List Entry) (e : Entry) (n : ℕ) → IsFreeHistory script older → FollowsRules script older e →
+pub unsubmitted_falls : (script : Script) → IsAccepted script → (older : List Entry) (e : Entry) (n : ℕ) → IsFreeHistory script older →
+    FollowsRules script older e →
     e.event ≡ OfItself (Submit n) → unsubmitted script (e ∷ older) < unsubmitted script older
 unsubmitted_falls script accepted older e n history follows event =
     let parts = submit_may script older e.actor n (subst (MayHappen script older e.actor) event follows.may) in

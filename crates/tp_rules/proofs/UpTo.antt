@@ -5,7 +5,8 @@ use Rattle.std.specs.List.{flat_map}
 use Rattle.std.proofs.lemmas.Bool.{cases_eq, cases_lt}
 use Rattle.std.proofs.lemmas.List.{length-append}
 use Rattle.tp_base.specs.Lists.{IsIn}
-use Rattle.tp_base.proofs.Members.{in_left, in_right}
+use Rattle.tp_base.proofs.Members.{in_get, in_left, in_right}
+use Rattle.tp_rules.specs.Tables.{nth}
 use Rattle.tp_topology.specs.Counting.{up_to}
 use Rattle.tp_base.proofs.Ends.{slice_get_left, slice_get_push}
 
@@ -47,3 +48,7 @@ get_up_to (suc n) i less = elim (cases_lt i n) [
       let value : n ≡ i = omega arith in
       ap (slice_get (up_to n ++ suc n ∷ [])) place ∙ slice_get_push (up_to n) (suc n) ∙ ap (λ (k : ℕ). Some (suc k)) value
 ]
+
+pub nth_in : {X : Type 0} (xs : List X) (n : ℕ) (x : X) → nth xs n ≡ Some x → IsIn x xs
+nth_in xs zero x e = absurd cc
+nth_in xs (suc i) x e = in_get xs i x e
