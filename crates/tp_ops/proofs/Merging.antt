@@ -29,7 +29,7 @@ merged_within n (op ∷ ops) f g some same =
     let p = partition_number (key_of op) n in
     ap (λ (xs : List Answer). first_of xs ++ merged n ops (next p f)) (same p (number_low (key_of op) n) (number_high (key_of op) n some))
     ∙ ap (λ (ys : List Answer). first_of (g p) ++ ys)
-      (merged_within n ops (next p f) (next p g) some (λ q low high. ap (λ (xs : List Answer). cond (q == p) (rest_of xs) xs) (same q low high)))
+    (merged_within n ops (next p f) (next p g) some (λ q low high. ap (λ (xs : List Answer). cond (q == p) (rest_of xs) xs) (same q low high)))
 
 rest-drop : (n : ℕ) (xs : List Answer) → rest_of (drop n xs) ≡ drop (suc n) xs
 rest-drop zero [] = refl

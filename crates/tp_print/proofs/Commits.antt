@@ -1,5 +1,5 @@
 -- The commits of a site, entry by entry, and the first stamp among them.
-use Rattle.std.proofs.Common.{◌≡◌, ℕ, ◌<◌, ◌+◌, length, get_or, take, Bool, true, false, cond, List, [], ◌∷◌, ◌++◌, Option, Some, None, refl, sym, ap, subst, ◌∙◌, arith}
+use Rattle.std.proofs.Common.{◌≡◌, ℕ, ◌<◌, ◌+◌, length, get_or, take, Bool, true, false, cond, List, [], ◌∷◌, ◌++◌, Option, Some, None, refl, sym, ap, subst, ◌∙◌}
 use Rattle.std.specs.Prelude.{filter, filter_map}
 use Rattle.std.proofs.lemmas.List.Elements.{filter_map-append}
 use Rattle.tp_base.proofs.SameNames.{same_site_is, same_site_refl}
@@ -18,7 +18,7 @@ use Rattle.tp_print.specs.Recorded.{AreMore, commits_at, commits_sent, first_sta
 use Rattle.tp_rules.specs.Outcome.{Commit, commit_by, commits}
 use Rattle.tp_rules.specs.declared.event.Entry.{Entry}
 use Rattle.tp_wire.specs.declared.message.Body.{Body}
-use Rattle.tp_wire.specs.declared.message.Body.TheVariants.{MSubmit, MPropose, MPayload, MProposeAck, MBump, MConsensus, MConsensusAck, MCommit, MRec, MRecAck, MPromises, MCommitted, MStable, MResult}
+use Rattle.tp_wire.specs.declared.message.Body.TheVariants.{MCommitted}
 use Rattle.tp_wire.specs.declared.message.Message.{Message}
 
 or_else_assoc : (a b c : Option ℕ) → or_else (or_else a b) c ≡ or_else a (or_else b c)

@@ -1,10 +1,9 @@
 -- An output, looked up in a journal in its own order.
-use Rattle.std.proofs.Common.{◌≡◌, ◌≢◌, ℕ, zero, suc, ◌+◌, ◌-◌, ◌<◌, ◌≤◌, ◌⊎◌, inl, inr, Bool, true, false, cond, List, [], ◌∷◌, ◌++◌, length, Option, Some, None, refl, sym, ap, subst, ◌∙◌, arith}
+use Rattle.std.proofs.Common.{◌≡◌, ◌≢◌, ℕ, zero, suc, ◌-◌, ◌≤◌, inl, inr, Bool, true, false, cond, List, [], ◌∷◌, ◌++◌, length, Option, Some, None, refl, sym, ap, subst, ◌∙◌, arith}
 use Rattle.std.specs.Prelude.{◌==◌, reverse, slice_get}
 use Rattle.std.proofs.lemmas.Bool.{cases_eq, eq-eqb, ne_eqb}
 use Rattle.std.proofs.lemmas.List.{length-reverse}
-use Rattle.std.proofs.lemmas.Option.{slice_get_past}
-use Rattle.tp_base.proofs.Ends.{reverse_push, slice_get_left, slice_get_push, snoc_ind}
+use Rattle.tp_base.proofs.Ends.{reverse_push, slice_get_push, snoc_ind}
 use Rattle.tp_rules.specs.Journal.{output_at}
 use Rattle.tp_rules.specs.Tables.{nth}
 use Rattle.tp_rules.specs.declared.event.Entry.{Entry}

@@ -1,15 +1,15 @@
 -- The record of a site goes on with each entry of a journal.
-use Rattle.std.proofs.Common.{◌≡◌, ℕ, ◌≤◌, ◌<◌, ◌+◌, Bool, true, false, cond, ◌||◌, ◌&&◌, List, [], ◌∷◌, ◌++◌, length, get_or, take, Option, Some, None, refl, sym, ap, subst, ◌∙◌, arith}
-use Rattle.std.specs.Prelude.{codes, filter, map, reverse, unwrap_or}
+use Rattle.std.proofs.Common.{◌≡◌, ℕ, ◌≤◌, ◌<◌, ◌+◌, Bool, true, false, cond, ◌||◌, ◌&&◌, List, [], ◌∷◌, ◌++◌, length, get_or, take, Option, Some, refl, sym, ap, subst, ◌∙◌}
+use Rattle.std.specs.Prelude.{codes, map, reverse, unwrap_or}
 use Rattle.std.proofs.lemmas.List.{take_all, take_more}
 use Rattle.indexmap.specs.IndexMap.{get}
 use Rattle.tp_base.proofs.Ends.{reverse_push}
-use Rattle.tp_base.specs.Names.{same_id, same_name, same_site}
+use Rattle.tp_base.specs.Names.{same_id, same_name}
 use Rattle.tp_base.specs.declared.names.ActorName.{ActorName}
 use Rattle.tp_base.specs.declared.names.ActorName.TheVariants.{Process, Executor, Session}
 use Rattle.tp_base.specs.declared.names.CommandId.{CommandId}
 use Rattle.tp_base.specs.declared.names.Site.{Site}
-use Rattle.tp_print.proofs.Commits.{first_stamp_entry, or_else_none, sent_by, sent_of_others, sent_of_process}
+use Rattle.tp_print.proofs.Commits.{first_stamp_entry, or_else_none, sent_of_others, sent_of_process}
 use Rattle.tp_print.specs.Recorded.{AreMore, IsRecorded, commits_at, commits_sent, first_stamp, or_else, recorded_words}
 use Rattle.tp_print.specs.Report.{crashed_words, executed_words, order_line, site_word, stamp_at, stamped_word, text_line}
 use Rattle.tp_print.specs.declared.site.SiteRecord.{SiteRecord}

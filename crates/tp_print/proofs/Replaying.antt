@@ -1,5 +1,5 @@
 -- The replay of a session goes with its rules.
-use Rattle.std.proofs.Common.{◌≡◌, ◌≢◌, ℕ, zero, suc, ◌+◌, ◌-◌, ◌<◌, ◌≤◌, inl, inr, Bool, true, false, cond, ◌&&◌, List, [], ◌∷◌, length, get_or, set, Bor, Option, Some, None, refl, sym, ap, subst, ◌∙◌, arith}
+use Rattle.std.proofs.Common.{◌≡◌, ◌≢◌, ℕ, suc, ◌<◌, ◌≤◌, inl, inr, Bool, true, false, cond, ◌&&◌, List, [], ◌∷◌, length, get_or, set, Bor, Option, Some, None, refl, sym, ap, subst, ◌∙◌, arith}
 use Rattle.std.specs.List.{list_all}
 use Rattle.std.specs.Prelude.{◌==◌, is_some, map, nat_le, option_map, replicate, slice_get, unwrap_or}
 use Rattle.std.proofs.lemmas.Bool.{cases_eq, eq-eqb, le-leb, ne_eqb}
@@ -20,10 +20,10 @@ use Rattle.tp_rules.specs.Acts.{Act, Client}
 use Rattle.tp_rules.specs.Journal.{act_of, acts, with_act}
 use Rattle.tp_rules.specs.declared.event.Entry.{Entry}
 use Rattle.tp_rules.specs.Addresses.{accessed}
-use Rattle.tp_rules.specs.Session.{Moved, SessionState, answers_at, is_awaited, is_whole, merged_reply, on_inner, on_result, reply, start, state_after}
+use Rattle.tp_rules.specs.Session.{Moved, SessionState, is_awaited, is_whole, merged_reply, on_inner, on_result, reply, start, state_after}
 use Rattle.tp_rules.specs.Tables.{nth, with_nth}
 use Rattle.tp_rules.specs.declared.event.Inner.{Inner}
-use Rattle.tp_rules.specs.declared.event.Inner.TheVariants.{Submit, Recover, Announce, Declare, Execute, Crash}
+use Rattle.tp_rules.specs.declared.event.Inner.TheVariants.{Submit}
 use Rattle.tp_topology.specs.Shape.{Shape}
 
 -- a step of the session's own

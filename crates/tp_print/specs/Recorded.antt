@@ -1,5 +1,5 @@
 -- What is kept of a site, beside what its journal says.
-use Rattle.std.specs.Prelude.{◌≡◌, ℕ, ◌++◌, cond, List, [], ◌∷◌, Option, Some, None, filter, filter_map, map, unwrap_or}
+use Rattle.std.specs.Prelude.{◌≡◌, ℕ, cond, List, [], ◌∷◌, Option, Some, None, filter, filter_map, map, unwrap_or}
 use Rattle.indexmap.specs.IndexMap.{IndexMap, get}
 use Rattle.tp_base.specs.Names.{same_id, same_site}
 use Rattle.tp_base.specs.declared.names.ActorName.TheVariants.{Process}

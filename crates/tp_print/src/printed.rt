@@ -23,6 +23,7 @@ fn put_all_replies(
     ensures lines { OnOk result (out.new ≡ out.old ++ flat_map (lines_of script.now (reverse entries.now)) (up_to (length script.now.homes))) }
     ensures unanswered { IfOk result (λ n. n ≡ length (flat_map (open_of script.now (reverse entries.now)) (up_to (length script.now.homes)))) }
 {
+    // No more commands are open than there are, so the count fits.
     let _most = script.commands.len();
     let mut unanswered = 0usize;
     for i in 0..script.homes.len() {

@@ -39,7 +39,8 @@ impl Process {
     fn decide(&mut self, id: CommandId, stamp: Stamp) -> Result<Outputs, NoMemory> {
         let mut outputs = Sequence::new(self.alloc);
         self.tell_commit(&mut outputs, id, stamp)?;
-        self.learn(&mut outputs, id, self.place.site.partition, stamp)?;
+        let partition = self.place.partition();
+        self.learn(&mut outputs, id, partition, stamp)?;
         Ok(outputs)
     }
 

@@ -1,3 +1,8 @@
+ghost use Rattle.std.specs.Prelude.{◌≡◌, ◌==◌, ◌++◌, not, filter, map, IfOk, OnOk};
+ghost use Rattle.std.specs.List.{flat_map};
+ghost use Rattle.tp_base.specs.Names.{same_name};
+ghost use Rattle.tp_rules.specs.Addresses.{site, to_each, accessed, others_accessed, processes_of as processes, executors_of as executors};
+
 use crate::place::Place;
 use std::alloc::Global;
 use tp_base::{ActorName, Duplicate, NoMemory, PartitionId, Rank, Sequence, Site};
@@ -16,7 +21,9 @@ pub(crate) fn send_each(
     from: ActorName,
     names: &[ActorName],
     body: &Body,
-) -> Result<(), NoMemory> {
+) -> Result<(), NoMemory>
+    ensures { OnOk result (outputs.new ≡ outputs.old ++ to_each from names.now body.now) }
+{
     for name in names {
         outputs.add(Message {
             from,
@@ -32,7 +39,9 @@ pub(crate) fn executors_of(
     alloc: Global,
     topology: &Topology,
     partition: PartitionId,
-) -> Result<Names, NoMemory> {
+) -> Result<Names, NoMemory>
+    ensures { IfOk result (λ names. names ≡ executors topology.now partition.0) }
+{
     let mut names = Sequence::new(alloc);
     for rank in 1..topology.replicas() + 1 {
         names.add(ActorName::Executor(Site {
@@ -48,7 +57,9 @@ pub(crate) fn processes_of(
     alloc: Global,
     topology: &Topology,
     partition: PartitionId,
-) -> Result<Names, NoMemory> {
+) -> Result<Names, NoMemory>
+    ensures { IfOk result (λ names. names ≡ processes topology.now partition.0) }
+{
     let mut names = Sequence::new(alloc);
     for rank in 1..topology.replicas() + 1 {
         names.add(ActorName::Process(Site {
@@ -64,7 +75,9 @@ pub(crate) fn counterparts(
     alloc: Global,
     place: &Place,
     command: &Command,
-) -> Result<Names, NoMemory> {
+) -> Result<Names, NoMemory>
+    ensures { IfOk result (λ names. names ≡ map (λ q. ActorName.Process (site q place.now.site.rank.0)) (others_accessed place.now.topology command.now place.now.site.partition.0)) }
+{
     let mut names = Sequence::new(alloc);
     for number in 1..place.topology.partitions() + 1 {
         let partition = PartitionId(number);
@@ -85,7 +98,9 @@ pub(crate) fn other_processes(
     alloc: Global,
     place: &Place,
     command: &Command,
-) -> Result<Names, NoMemory> {
+) -> Result<Names, NoMemory>
+    ensures { IfOk result (λ names. names ≡ filter (λ to. not (same_name to (ActorName.Process place.now.site))) (flat_map (processes place.now.topology) (accessed place.now.topology command.now))) }
+{
     let mut names = Sequence::new(alloc);
     for number in 1..place.topology.partitions() + 1 {
         let partition = PartitionId(number);
@@ -101,7 +116,9 @@ fn add_others(
     names: &mut Names,
     place: &Place,
     partition: PartitionId,
-) -> Result<(), NoMemory> {
+) -> Result<(), NoMemory>
+    ensures { OnOk result (names.new ≡ names.old ++ filter (λ to. not (same_name to (ActorName.Process place.now.site))) (processes place.now.topology partition.0)) }
+{
     for rank in 1..place.topology.replicas() + 1 {
         let site = Site {
             partition,

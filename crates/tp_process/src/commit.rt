@@ -1,4 +1,5 @@
-ghost use Rattle.std.specs.Prelude.{◌≤◌};
+ghost use Rattle.std.specs.Prelude.{◌≡◌, ◌≤◌, true};
+ghost use Rattle.tp_rules.specs.Addresses.{is_between};
 
 use crate::process::Process;
 use crate::sheets::{command_at, keep, learn};
@@ -16,8 +17,7 @@ impl Process {
         partition: PartitionId,
         stamp: Stamp,
     ) -> Result<Outputs, NoMemory>
-        requires some { 1 ≤ partition.0 }
-        requires few { partition.0 ≤ 4 }
+        requires { is_between partition.0 self.old.place.topology.partitions ≡ true }
     {
         let mut outputs = Sequence::new(self.alloc);
         if accesses(command, self.place.topology.partitions(), partition) {

@@ -1,4 +1,4 @@
-ghost use Rattle.std.specs.Prelude.{◌≡◌, ◌&&◌};
+ghost use Rattle.std.specs.Prelude.{◌≡◌, ◌≤◌, ◌&&◌};
 ghost use Rattle.tp_base.specs.Names.{same_name};
 ghost use Rattle.tp_process.specs.Places.{IsPlace};
 ghost use Rattle.tp_rules.specs.Addresses.{is_between, is_site_of, is_name_of, is_body_at, is_command_at};
@@ -30,6 +30,20 @@ impl Place {
             topology: *topology,
             site,
         }
+    }
+
+    pub(crate) fn partition(&self) -> PartitionId
+        ensures value { result ≡ self.now.site.partition }
+        ensures range { (1 ≤ result.0) × (result.0 ≤ 4) }
+    {
+        self.site.partition
+    }
+
+    pub(crate) fn rank(&self) -> Rank
+        ensures value { result ≡ self.now.site.rank }
+        ensures range { (1 ≤ result.0) × (result.0 ≤ self.now.topology.replicas) }
+    {
+        self.site.rank
     }
 
     pub(crate) fn name(&self) -> ActorName

@@ -60,13 +60,16 @@ impl Process {
         self.clock < LIMIT - 1
     }
 
-    /// Promises a stamp of at least the floor to a command, and the numbers below it to none.
-    pub(crate) fn next_stamp(&mut self, id: CommandId, floor: Stamp) -> Result<Stamp, NoMemory>
-    {
-        let stamp = Stamp(floor.0.max(self.clock.saturating_add(1)));
+    /// The stamp of a proposal of at least the floor.
+    pub(crate) fn next_stamp(&self, floor: Stamp) -> Stamp {
+        Stamp(floor.0.max(self.clock.saturating_add(1)))
+    }
+
+    /// Promises a stamp to a command, and the numbers between the clock and it to none.
+    pub(crate) fn promise(&mut self, id: CommandId, stamp: Stamp) -> Result<(), NoMemory> {
         self.untold.add(Pair { id, stamp })?;
         self.clock = stamp.0;
-        Ok(stamp)
+        Ok(())
     }
 
     /// Promises to none the numbers above the clock up to a stamp.

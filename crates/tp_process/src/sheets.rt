@@ -1,7 +1,7 @@
 ghost use Rattle.std.specs.Prelude.{◌≡◌, ◌≤◌, OnOk, IfOk};
 ghost use Rattle.std.specs.Option.{option_copied, option_map};
 ghost use Rattle.tp_process.specs.Sheets.{sheet_at, OpensSheet, ChangesSheet};
-ghost use Rattle.tp_rules.specs.Sheet.{is_fresh as is_fresh_in, kept, with_proposal};
+ghost use Rattle.tp_rules.specs.Sheet.{command_or as kept_or, is_fresh as is_fresh_in, kept, with_proposal};
 ghost use Rattle.tp_sheet.specs.SiteSheet.{with_sheet, with_own, choice_by, with_acknowledgement, with_known, final_of, final_by};
 
 use crate::place::Place;
@@ -35,6 +35,20 @@ pub(crate) fn command_at<'a>(
     match sheets.get(&id) {
         Some(sheet) => sheet.command(),
         None => None,
+    }
+}
+
+/// The command that is kept in a command's sheet, or else this one.
+pub(crate) fn command_or<'a>(
+    sheets: &'a Sheets,
+    place: &Place,
+    command: &'a Command,
+) -> &'a Command
+    ensures { result.now ≡ kept_or command.now (sheet_at place.now.topology place.now.site sheets.now command.now.id).sheet }
+{
+    match command_at(sheets, place, command.id) {
+        Some(kept) => kept,
+        None => command,
     }
 }
 

@@ -1,8 +1,13 @@
+ghost use Rattle.std.specs.Prelude.{◌≡◌, ◌≤◌, ◌++◌, true, cond, IfOk, OnOk};
+ghost use Rattle.tp_rules.specs.Process.{proposals};
+ghost use Rattle.tp_rules.specs.Sheet.{ring_setting};
+ghost use Rattle.tp_topology.specs.Shape.{in_ring};
+
 use crate::addresses::{counterparts, send_each};
 use crate::place::Place;
 use crate::process::Process;
-use crate::sheets::{command_at, is_fresh, keep, propose, submit};
-use tp_base::{ActorName, CommandId, Duplicate, NoMemory, Rank, Sequence, Site, Stamp};
+use crate::sheets::{command_or, is_fresh, keep, propose, submit};
+use tp_base::{ActorName, Duplicate, NoMemory, Rank, Site, Stamp};
 use tp_ops::Command;
 use tp_rules::Outputs;
 use tp_wire::{Body, Message};
@@ -10,15 +15,13 @@ use tp_wire::{Body, Message};
 impl Process {
     /// A command is submitted here: the home proposes, and asks its fast quorum for proposals.
     pub(crate) fn on_submit(&mut self, command: &Command) -> Result<Outputs, NoMemory> {
-        let at_home = command.home == self.place.site.rank;
-        if !(at_home && is_fresh(&self.sheets, &self.place, command.id) && self.has_room()) {
+        if !self.takes_submission(command) {
             return Ok(self.nothing());
         }
-        let stamp = self.next_stamp(command.id, Stamp(0))?;
+        let stamp = self.next_stamp(Stamp(0));
+        let outputs = self.submission(command, stamp)?;
+        self.promise(command.id, stamp)?;
         submit(&mut self.sheets, &self.place, command.copy()?, stamp)?;
-        let mut outputs = Sequence::new(self.alloc);
-        ask_for_proposals(&mut outputs, &self.place, command, stamp)?;
-        self.tell_bumps(&mut outputs, command.id, stamp)?;
         Ok(outputs)
     }
 
@@ -29,21 +32,13 @@ impl Process {
         command: &Command,
         floor: Stamp,
     ) -> Result<Outputs, NoMemory> {
-        if !(is_fresh(&self.sheets, &self.place, command.id) && self.has_room()) {
+        if !self.takes_proposal(command) {
             return Ok(self.nothing());
         }
-        let stamp = self.next_stamp(command.id, floor)?;
+        let stamp = self.next_stamp(floor);
+        let outputs = self.proposal(from, command, stamp)?;
+        self.promise(command.id, stamp)?;
         propose(&mut self.sheets, &self.place, command.copy()?, stamp)?;
-        let mut outputs = Sequence::new(self.alloc);
-        outputs.add(Message {
-            from: self.place.name(),
-            to: from,
-            body: Body::MProposeAck {
-                id: command.id,
-                stamp,
-            },
-        })?;
-        self.tell_bumps(&mut outputs, command.id, stamp)?;
         Ok(outputs)
     }
 
@@ -53,24 +48,58 @@ impl Process {
         Ok(self.nothing())
     }
 
-    /// Tells the own proposal to the process of this rank in each other partition of the command.
+    fn takes_submission(&self, command: &Command) -> bool
+        ensures home { result ≡ true → (1 ≤ command.now.home.0) × (command.now.home.0 ≤ self.now.place.topology.replicas) }
+    {
+        command.home == self.place.rank() && self.takes_proposal(command)
+    }
+
+    fn takes_proposal(&self, command: &Command) -> bool {
+        is_fresh(&self.sheets, &self.place, command.id) && self.has_room()
+    }
+
+    /// What the home sends of a command that is submitted.
+    fn submission(&self, command: &Command, stamp: Stamp) -> Result<Outputs, NoMemory>
+        requires { (1 ≤ command.now.home.0) × (command.now.home.0 ≤ self.now.place.topology.replicas) }
+    {
+        let mut outputs = self.nothing();
+        ask_for_proposals(&mut outputs, &self.place, command, stamp)?;
+        self.tell_bumps(&mut outputs, command, stamp)?;
+        Ok(outputs)
+    }
+
+    /// What a member of the fast quorum answers.
+    fn proposal(
+        &self,
+        from: ActorName,
+        command: &Command,
+        stamp: Stamp,
+    ) -> Result<Outputs, NoMemory> {
+        let mut outputs = self.nothing();
+        outputs.add(Message {
+            from: self.place.name(),
+            to: from,
+            body: Body::MProposeAck {
+                id: command.id,
+                stamp,
+            },
+        })?;
+        self.tell_bumps(&mut outputs, command, stamp)?;
+        Ok(outputs)
+    }
+
+    /// Tells the own proposal to the process of this rank in each other partition of the command
+    /// that is kept, or else of this one.
     fn tell_bumps(
         &self,
         outputs: &mut Outputs,
-        id: CommandId,
+        command: &Command,
         stamp: Stamp,
     ) -> Result<(), NoMemory> {
-        match command_at(&self.sheets, &self.place, id) {
-            Some(command) => {
-                let names = counterparts(self.alloc, &self.place, command)?;
-                let body = Body::MBump {
-                    id: command.id,
-                    stamp,
-                };
-                send_each(outputs, self.place.name(), names.as_slice(), &body)
-            }
-            None => Ok(()),
-        }
+        let kept = command_or(&self.sheets, &self.place, command);
+        let names = counterparts(self.alloc, &self.place, kept)?;
+        let body = Body::MBump { id: kept.id, stamp };
+        send_each(outputs, self.place.name(), names.as_slice(), &body)
     }
 }
 
@@ -80,7 +109,10 @@ fn ask_for_proposals(
     place: &Place,
     command: &Command,
     stamp: Stamp,
-) -> Result<(), NoMemory> {
+) -> Result<(), NoMemory>
+    requires { (1 ≤ command.now.home.0) × (command.now.home.0 ≤ place.now.topology.replicas) }
+    ensures { OnOk result (outputs.new ≡ outputs.old ++ proposals (ring_setting place.now.topology) place.now.site command.now stamp.0) }
+{
     for number in 1..place.topology.replicas() + 1 {
         let rank = Rank(number);
         if rank != place.site.rank {
@@ -104,7 +136,11 @@ fn asking(
     command: &Command,
     stamp: Stamp,
     rank: Rank,
-) -> Result<Body, NoMemory> {
+) -> Result<Body, NoMemory>
+    requires home { (1 ≤ command.now.home.0) × (command.now.home.0 ≤ place.now.topology.replicas) }
+    requires rank { (1 ≤ rank.0) × (rank.0 ≤ place.now.topology.replicas) }
+    ensures { IfOk result (λ body. body ≡ cond (in_ring place.now.topology command.now.home.0 rank.0) (Body.MPropose command.now stamp) (Body.MPayload command.now)) }
+{
     let command = command.copy()?;
     if place.topology.in_fast_quorum(command.home, rank) {
         Ok(Body::MPropose {

@@ -121,10 +121,9 @@ impl Session {
     }
 
     fn submit(&mut self, n: u32) -> Result<Outputs, NoMemory>
-        requires next { n ≡ length self.old.kept.items + 1 }
         ensures identity { identity self.new ≡ identity self.old }
         ensures outputs { IfOk result (λ outputs. outputs ≡ submissions self.old.topology (client self.old) (nth self.old.commands n)) }
-        ensures state { OnOk result ((state : SessionState) → IsState self.old state → IsState self.new (on_submit self.old.topology (client self.old) n state).0) }
+        ensures state { OnOk result ((state : SessionState) → IsState self.old state → n ≡ state.submitted + 1 → IsState self.new (on_submit self.old.topology (client self.old) n state).0) }
     {
         let outputs = match self.command(n) {
             Some(command) => {
@@ -187,9 +186,8 @@ impl Session {
     }
 
     fn take(&mut self, message: &Message) -> Result<(), NoMemory>
-        requires range { IsInRange message.now }
         ensures identity { identity self.new ≡ identity self.old }
-        ensures state { OnOk result ((state : SessionState) → IsState self.old state → IsState self.new (on_message self.old.topology (client self.old) message.now state).0) }
+        ensures state { OnOk result ((state : SessionState) → IsState self.old state → IsInRange message.now → IsState self.new (on_message self.old.topology (client self.old) message.now state).0) }
     {
         if message.to != ActorName::Session(self.id) {
             return Ok(());
@@ -216,6 +214,9 @@ impl Session {
 }
 
 impl Actor for Session {
+    ghost use Rattle.std.specs.Prelude.{is_err};
+    ghost use Rattle.tp_rules.specs.Acts.{Act, Did, Took};
+    ghost use Rattle.tp_rules.specs.Rules.{MayMake, enabled, outputs_of};
     ghost use Rattle.tp_session.specs.States.{Stands, identity};
 
     ghost identity_of = { identity };
@@ -232,14 +233,24 @@ impl Actor for Session {
         self.spent
     }
 
-    fn deliver(&mut self, message: &Message) -> Result<Outputs, NoMemory> {
+    fn deliver(&mut self, message: &Message) -> Result<Outputs, NoMemory>
+        ensures identity { identity self.new ≡ identity self.old }
+        ensures spent { self.new.spent ≡ is_err result }
+        ensures outputs { IfOk result (λ outputs. (acts : List Act) → Stands self.old acts → IsInRange message.now → outputs ≡ outputs_of (identity self.old) acts (Took message.now)) }
+        ensures stands { OnOk result ((acts : List Act) → Stands self.old acts → IsInRange message.now → Stands self.new (Took message.now ∷ acts)) }
+    {
         let taken = self.take(message);
         self.spent = taken.is_err();
         taken?;
         Ok(Sequence::new(self.alloc))
     }
 
-    fn fire(&mut self, inner: Inner) -> Result<Outputs, NoMemory> {
+    fn fire(&mut self, inner: Inner) -> Result<Outputs, NoMemory>
+        ensures identity { identity self.new ≡ identity self.old }
+        ensures spent { self.old.spent ≡ false → self.new.spent ≡ is_err result }
+        ensures outputs { IfOk result (λ outputs. (acts : List Act) → Stands self.old acts → MayMake (identity self.old) acts inner → outputs ≡ outputs_of (identity self.old) acts (Did inner)) }
+        ensures stands { OnOk result ((acts : List Act) → Stands self.old acts → MayMake (identity self.old) acts inner → Stands self.new (Did inner ∷ acts)) }
+    {
         match inner {
             Inner::Submit(n) => {
                 let outputs = self.submit(n);
@@ -250,7 +261,9 @@ impl Actor for Session {
         }
     }
 
-    fn next_inner(&self) -> Option<Inner> {
+    fn next_inner(&self) -> Option<Inner>
+        ensures { (acts : List Act) → Stands self.now acts → result ≡ enabled (identity self.now) acts }
+    {
         let submitted = self.kept.len();
         if submitted < self.commands.len() && self.unanswered < self.window {
             return Some(Inner::Submit(submitted as u32 + 1));

@@ -1,4 +1,4 @@
-use Rattle.std.proofs.Common.{List, ◌++◌, ap, ◌∙◌, ◌≡◌, ℕ, unwrap_or, map}
+use Rattle.std.proofs.Common.{List, ◌++◌, ap, ◌∙◌, ℕ, unwrap_or, map}
 use Rattle.indexmap.specs.IndexMap.{get}
 use Rattle.std.specs.List.{flat_map}
 use Rattle.tp_base.specs.Names.{same_id}

@@ -1,4 +1,4 @@
-use Rattle.std.proofs.Common.{◌≡◌, ◌∙◌, ◌++◌, [], ◌∷◌, List, ℕ, ap, subst}
+use Rattle.std.proofs.Common.{◌∙◌, ◌++◌, [], ◌∷◌, List, ℕ, ap}
 use Rattle.std.specs.Prelude.{codes}
 use Rattle.tp_print.proofs.Reporting.{report_is}
 use Rattle.tp_print.specs.Report.{report_text}

@@ -1,6 +1,6 @@
-use Rattle.std.proofs.Common.{List, ◌∷◌, get_or, take, subst, sym, ap}
+use Rattle.std.proofs.Common.{List, ◌∷◌, take, subst}
 use Rattle.std.specs.Prelude.{reverse}
-use Rattle.tp_print.proofs.Recording.{reverse_more, reverse_whole}
+use Rattle.tp_print.proofs.Recording.{reverse_more}
 use Rattle.tp_print.specs.Recorded.{IsRecorded}
 use Rattle.tp_rules.specs.declared.event.Entry.{Entry}
 use Rattle.tp_print.proofs.site.site_record.Goals as goal

@@ -1,0 +1,11 @@
+use Rattle.std.proofs.Common.{◌≡◌, ◌-◌, ◌++◌, map}
+use Rattle.std.specs.Prelude.{filter, not}
+use Rattle.tp_base.specs.Names.{same_name}
+use Rattle.tp_base.specs.declared.names.ActorName.TheVariants.{Process}
+use Rattle.tp_rules.specs.Addresses.{site}
+use Rattle.tp_topology.specs.Counting.{up_to}
+use Rattle.tp_process.proofs.addresses.add_others.Given as goal
+
+abbrev pub invariant-loop-rank : goal.invariant-loop-rank
+invariant-loop-rank l =
+    l.names ≡ l.fn.names ++ filter (λ to. not (same_name to (Process l.place.site))) (map (λ rank. Process (site l.partition.0 rank)) (up_to (l.rank - 1)))

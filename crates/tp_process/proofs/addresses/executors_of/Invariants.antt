@@ -1,0 +1,8 @@
+use Rattle.std.proofs.Common.{◌≡◌, ◌-◌, map}
+use Rattle.tp_base.specs.declared.names.ActorName.TheVariants.{Executor}
+use Rattle.tp_rules.specs.Addresses.{site}
+use Rattle.tp_topology.specs.Counting.{up_to}
+use Rattle.tp_process.proofs.addresses.executors_of.Given as goal
+
+abbrev pub invariant-loop-rank : goal.invariant-loop-rank
+invariant-loop-rank l = l.names ≡ map (λ rank. Executor (site l.partition.0 rank)) (up_to (l.rank - 1))
