@@ -12,6 +12,7 @@ use Rattle.tp_rules.specs.Plan.{is_counted_to, ordinal_of, fate_of, fate_by}
 use Rattle.tp_rules.specs.Tables.{nth}
 use Rattle.tp_rules.specs.declared.event.Entry.{Entry}
 use Rattle.tp_rules.specs.declared.event.Parcel.{Parcel}
+use Rattle.tp_rules.proofs.Distinct.{Distinct}
 use Rattle.tp_rules.proofs.Tallies.{filter_none}
 use Rattle.tp_script.specs.declared.script.Script.{Script}
 use Rattle.tp_wire.specs.declared.message.Message.{Message}
@@ -104,6 +105,25 @@ same_parcel older a b h k entries places =
     let three : output_at older a.entry a.place ≡ output_at older b.entry b.place = cc in
     let messages : a.message ≡ b.message = cc in
     λ i. record { entry = entries i; place = places i; message = messages i }
+
+numbered_once : (n k : ℕ) (ms : List Message) → Distinct (numbered n k ms)
+numbered_once n k [] = tt
+numbered_once n k (m ∷ ms) = (λ h. omega (arith, (numbered_parts n (suc k) ms (parcel n k m) h).1), numbered_once n (suc k) ms)
+
+append_once : (ps qs : List Parcel) → Distinct ps → Distinct qs → ((p : Parcel) → IsIn p ps → IsIn p qs → ⊥) → Distinct (ps ++ qs)
+append_once [] qs h k apart = k
+append_once (p ∷ ps) qs h k apart =
+    (λ there. elim (in_either ps qs p there) [ inl left ↦ h.0 left | inr right ↦ apart p (inl refl) right ], append_once ps qs h.1 k (λ q l r. apart q (inr l) r))
+
+-- no output stands twice among those sent
+pub sent_once : (older : List Entry) → Distinct (sent older)
+sent_once [] = tt
+sent_once (x ∷ older) =
+    let new = numbered (suc (length older)) 1 x.outputs in
+    append_once (sent older) new (sent_once older) (numbered_once (suc (length older)) 1 x.outputs) (λ p old fresh.
+    let within = sent_within older p old in
+    let parts = numbered_parts (suc (length older)) 1 x.outputs p fresh in
+    omega (arith, within.1, parts.0))
 
 -- a newer output is not counted in the number of an older one
 not_counted : (p other : Parcel) → p.entry < other.entry → is_counted_to p other ≡ false
