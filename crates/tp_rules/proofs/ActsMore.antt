@@ -1,16 +1,16 @@
--- What one more entry does to the acts of an actor. Used for whatever is shown along journals.
-use Rattle.std.proofs.Common.{◌≡◌, ◌≢◌, ℕ, true, List, ◌∷◌, Option, Some, None, refl, ap, ◌∙◌}
+-- What holds of an actor's acts along a journal, entry by entry. Used for whatever is shown of the states of actors.
+use Rattle.std.proofs.Common.{◌≡◌, ℕ, List, ◌∷◌, Option, Some, None, refl, ap, subst, ◌∙◌}
 use Rattle.std.specs.Prelude.{option_map}
-use Rattle.std.proofs.lemmas.Bool.{cond_both, cond-true, cond-false}
+use Rattle.std.proofs.lemmas.Bool.{cond_both}
 use Rattle.tp_base.specs.Names.{same_name}
-use Rattle.tp_base.proofs.SameNames.{same_name_refl, same_name_is, same_name_not}
+use Rattle.tp_base.proofs.SameNames.{same_name_is}
 use Rattle.tp_base.specs.declared.names.ActorName.{ActorName}
-use Rattle.tp_rules.specs.Acts.{Act, Took, Did}
+use Rattle.tp_rules.specs.Acts.{Act, Took}
 use Rattle.tp_rules.specs.Journal.{output_at, act_of, with_act, acts}
 use Rattle.tp_rules.specs.declared.event.Entry.{Entry}
-use Rattle.tp_rules.specs.declared.event.Event.TheVariants.{Deliver, Inner as OfItself}
-use Rattle.tp_rules.specs.declared.event.Inner.{Inner}
+use Rattle.tp_rules.specs.declared.event.Event.TheVariants.{Deliver}
 use Rattle.tp_wire.specs.declared.message.Message.{Message}
+use Rattle.tp_rules.proofs.Journals.{acts_of_newest}
 
 -- what holds after an actor's acts holds after one more entry, where it holds after the act that the entry adds
 pub acts_step : (P : List Act → Type 0) (older : List Entry) (e : Entry) (a : ActorName) → P (acts older a) →
@@ -23,25 +23,19 @@ acts_step P older e a h more =
     of_act None k = h
     of_act (Some act) k = k act refl
 
--- the actor's own
-pub acts_here : (older : List Entry) (e : Entry) (a : ActorName) (act : Act) → e.actor ≡ a → act_of older e.event ≡ Some act → acts (e ∷ older) a ≡ act ∷ acts older a
-acts_here older e a act same is =
-    let here : same_name e.actor a ≡ true = ap (λ (x : ActorName). same_name x a) same ∙ same_name_refl a in
-    cond-true (same_name e.actor a) (with_act (act_of older e.event) (acts older a)) (acts older a) here ∙ ap (λ (o : Option Act). with_act o (acts older a)) is
-
--- another's
-pub acts_other : (older : List Entry) (e : Entry) (a : ActorName) → e.actor ≢ a → acts (e ∷ older) a ≡ acts older a
-acts_other older e a apart = cond-false (same_name e.actor a) (with_act (act_of older e.event) (acts older a)) (acts older a) (same_name_not e.actor a apart)
+-- the acts of the actor of an entry
+pub acts_then : (older : List Entry) (e : Entry) (a : ActorName) (act : Act) → e.actor ≡ a → act_of older e.event ≡ Some act →
+    acts (e ∷ older) a ≡ act ∷ acts older a
+acts_then older e a act same is =
+    subst (λ (x : ActorName). acts (e ∷ older) x ≡ act ∷ acts older x) same
+    (acts_of_newest older e ∙ ap (λ (o : Option Act). with_act o (acts older e.actor)) is)
 
 -- a delivery's message
 pub delivered_act : (older : List Entry) (entry place : ℕ) (act : Act) → act_of older (Deliver entry place) ≡ Some act →
     (m : Message) × (output_at older entry place ≡ Some m) × (act ≡ Took m)
 delivered_act older entry place act e = of_output (output_at older entry place) refl e
   where
-    of_output : (o : Option Message) → output_at older entry place ≡ o → option_map Took o ≡ Some act → (m : Message) × (output_at older entry place ≡ Some m) × (act ≡ Took m)
+    of_output : (o : Option Message) → output_at older entry place ≡ o → option_map Took o ≡ Some act →
+        (m : Message) × (output_at older entry place ≡ Some m) × (act ≡ Took m)
     of_output None is f = absurd cc
     of_output (Some m) is f = (m, is, cc)
-
--- the act of an entry's event was a message that was sent, or is the event's own step
-pub inner_act : (older : List Entry) (inner : Inner) (act : Act) → act_of older (OfItself inner) ≡ Some act → act ≡ Did inner
-inner_act older inner act e = cc

@@ -1,11 +1,10 @@
 -- Where each command that an actor took passes a predicate, so does each that it keeps, has committed or sends. Used for the
 -- provenance of commands.
-use Rattle.std.proofs.Common.{◌≡◌, ℕ, zero, suc, List, [], ◌∷◌, Option, Some, None, cond, refl, sym, subst}
+use Rattle.std.proofs.Common.{◌≡◌, ℕ, List, [], ◌∷◌, Option, Some, None, cond, refl, sym, subst}
 use Rattle.std.specs.Prelude.{◌==◌, ◌&&◌, nat_lt, is_some, unwrap_or}
 use Rattle.std.proofs.lemmas.Bool.{cond_both}
 use Rattle.tp_base.specs.Lists.{Each, IsIn, has}
 use Rattle.tp_base.specs.Names.{same_id, same_name}
-use Rattle.tp_base.proofs.Members.{in_get}
 use Rattle.tp_base.proofs.SameNames.{same_id_is}
 use Rattle.tp_base.specs.declared.names.ActorName.{ActorName}
 use Rattle.tp_base.specs.declared.names.ActorName.TheVariants.{Process, Executor, Session}
@@ -30,6 +29,7 @@ use Rattle.tp_wire.specs.declared.message.Body.{Body}
 use Rattle.tp_wire.specs.declared.message.Body.TheVariants.{MSubmit, MPropose, MPayload, MProposeAck, MBump, MConsensus, MConsensusAck, MCommit, MRec, MRecAck, MPromises, MCommitted, MStable, MResult}
 use Rattle.tp_wire.specs.declared.message.Message.{Message}
 use Rattle.tp_rules.proofs.LaterKinds.{executor_silent, session_silent}
+use Rattle.tp_rules.proofs.UpTo.{nth_in}
 use Rattle.tp_rules.proofs.SendsOfProcess.{EachSent, each_to, on_submit_sends, on_propose_sends, on_payload_sends, on_propose_ack_sends, on_commit_sends, on_announce_sends, with_room_sends}
 
 -- the command that a body carries passes
@@ -73,13 +73,16 @@ module _ (P : Command → Type 0) where
   keeps_more id c None h e k = (h, e)
   keeps_more id c (Some d) h e k = k
 
-  put_sheet : (sheets : CommandId → Sheet) (id : CommandId) (sheet : Sheet) → Keeps P id sheet.command → ((other : CommandId) → Keeps P other (sheets other).command) →
+  put_sheet : (sheets : CommandId → Sheet) (id : CommandId) (sheet : Sheet) → Keeps P id sheet.command →
+      ((other : CommandId) → Keeps P other (sheets other).command) →
       (other : CommandId) → Keeps P other (cond (same_id id other) sheet (sheets other)).command
   put_sheet sheets id sheet h k other = cond_both (same_id id other) sheet (sheets other) (λ (x : Sheet). Keeps P other x.command)
       (λ e. subst (λ (i : CommandId). Keeps P i sheet.command) (same_id_is id other e) h) (λ e. k other)
 
   own_command : (s : Setting) (p own t : ℕ) (sheet : Sheet) → (acknowledged_own s p own t sheet).command ≡ sheet.command
-  own_command s p own t sheet = cond_both (can_acknowledge s p own own sheet) (acknowledged own t sheet) sheet (λ (x : Sheet). x.command ≡ sheet.command) (λ e. refl) (λ e. refl)
+  own_command s p own t sheet =
+      cond_both (can_acknowledge s p own own sheet) (acknowledged own t sheet) sheet (λ (x : Sheet). x.command ≡ sheet.command) (λ e. refl)
+      (λ e. refl)
 
   abbrev Kept : process.Moved → Type 0
   Kept moved = KeepsOnly P moved.0
@@ -146,14 +149,17 @@ module _ (P : Command → Type 0) where
   row_keeps s me from (MStable id) state h p = h
   row_keeps s me from (MResult id q answers) state h p = h
 
-  message_keeps : (s : Setting) (me : Site) (m : Message) (state : process.ProcessState) → KeepsOnly P state → Carries P m.body → Kept (process.on_message s me m state)
+  message_keeps : (s : Setting) (me : Site) (m : Message) (state : process.ProcessState) → KeepsOnly P state → Carries P m.body →
+      Kept (process.on_message s me m state)
   message_keeps s me m state h p =
       let moved = process.on_body s me m.from m.body state in
-      cond_both (same_name m.to (Process me) && is_name_of s.shape m.from && is_body_at s.shape me.partition.0 m.body) (process.with_room state moved) (state, []) Kept
+      cond_both (same_name m.to (Process me) && is_name_of s.shape m.from && is_body_at s.shape me.partition.0 m.body)
+      (process.with_room state moved) (state, []) Kept
       (λ e. cond_both (nat_lt moved.0.clock process.LIMIT) moved (state, []) Kept (λ room. row_keeps s me m.from m.body state h p) (λ room. h))
       (λ e. h)
 
-  process_keeps : (s : Setting) (me : Site) (act : Act) (state : process.ProcessState) → KeepsOnly P state → Takes P act → Kept (process.react s me act state)
+  process_keeps : (s : Setting) (me : Site) (act : Act) (state : process.ProcessState) → KeepsOnly P state → Takes P act →
+      Kept (process.react s me act state)
   process_keeps s me (Took m) state h p = message_keeps s me m state h p
   process_keeps s me (Did Announce) state h p =
       let next : process.ProcessState = record { clock = state.clock; told = state.clock; attached = state.attached; sheets = state.sheets } in
@@ -200,7 +206,8 @@ module _ (P : Command → Type 0) where
       EachSent Passes (process.react s me act state)
   process_sends_only s me (Took m) state h p =
       let moved = process.on_body s me m.from m.body state in
-      cond_both (same_name m.to (Process me) && is_name_of s.shape m.from && is_body_at s.shape me.partition.0 m.body) (process.with_room state moved) (state, []) (EachSent Passes)
+      cond_both (same_name m.to (Process me) && is_name_of s.shape m.from && is_body_at s.shape me.partition.0 m.body)
+      (process.with_room state moved) (state, []) (EachSent Passes)
       (λ e. with_room_sends Passes me state moved (row_sends s me m.from m.body state h p)) (λ e. tt)
   process_sends_only s me (Did Announce) state h p = on_announce_sends Passes me s.shape state (λ to lo hi pairs. tt)
   process_sends_only s me (Did (Submit n)) state h p = tt
@@ -218,7 +225,8 @@ module _ (P : Command → Type 0) where
       let next : executor.ExecutorState = record state { told = record { rank = rank_of from; lo = lo; hi = hi; attached = pairs } ∷ state.told } in
       cond_both (partition_of from == me.partition.0) (next, []) (state, []) Commits (λ e. h) (λ e. h)
   executor_row me from (MCommitted c t) state h p =
-      let next : executor.ExecutorState = record state { committed = record { key = record { stamp = record { 0 = t.0 }; id = c.id }; command = c } ∷ state.committed } in
+      let next : executor.ExecutorState =
+      record state { committed = record { key = record { stamp = record { 0 = t.0 }; id = c.id }; command = c } ∷ state.committed } in
       cond_both (has same_id c.id (executor.committed_ids state)) (state, []) (next, []) Commits (λ e. h) (λ e. ((p, refl), h))
   executor_row me from (MSubmit c) state h p = h
   executor_row me from (MPropose c floor) state h p = h
@@ -238,9 +246,11 @@ module _ (P : Command → Type 0) where
   execution_commits shape me None state h = h
   execution_commits shape me (Some c) state h = h
 
-  executor_step : (shape : Shape) (me : Site) (act : Act) (state : executor.ExecutorState) → CommitsOnly P state → Takes P act → Commits (executor.react shape me act state)
+  executor_step : (shape : Shape) (me : Site) (act : Act) (state : executor.ExecutorState) → CommitsOnly P state → Takes P act →
+      Commits (executor.react shape me act state)
   executor_step shape me (Took m) state h p =
-      cond_both (same_name m.to (Executor me) && is_name_of shape m.from && is_body_at shape me.partition.0 m.body) (executor.on_body me m.from m.body state) (state, []) Commits
+      cond_both (same_name m.to (Executor me) && is_name_of shape m.from && is_body_at shape me.partition.0 m.body)
+      (executor.on_body me m.from m.body state) (state, []) Commits
       (λ e. executor_row me m.from m.body state h p) (λ e. h)
   executor_step shape me (Did (Execute id)) state h p = execution_commits shape me (executor.least (executor.waiting state)) state h
   executor_step shape me (Did Announce) state h p = h
@@ -252,13 +262,16 @@ module _ (P : Command → Type 0) where
   -- an executor has committed what passes
   pub executor_commits_only : (shape : Shape) (me : Site) (acts : List Act) → Each (Takes P) acts → CommitsOnly P (executor.state_after shape me acts)
   executor_commits_only shape me [] h = tt
-  executor_commits_only shape me (act ∷ before) h = executor_step shape me act (executor.state_after shape me before) (executor_commits_only shape me before h.1) h.0
+  executor_commits_only shape me (act ∷ before) h =
+      executor_step shape me act (executor.state_after shape me before) (executor_commits_only shape me before h.1) h.0
 
-  execution_sends : (shape : Shape) (me : Site) (o : Option executor.Committed) (state : executor.ExecutorState) → Each Passes (executor.execute_least shape me o state).1
+  execution_sends : (shape : Shape) (me : Site) (o : Option executor.Committed) (state : executor.ExecutorState) →
+      Each Passes (executor.execute_least shape me o state).1
   execution_sends shape me None state = tt
   execution_sends shape me (Some c) state = (tt, tt)
 
-  pub executor_sends_only : (shape : Shape) (me : Site) (act : Act) (state : executor.ExecutorState) → Each Passes (executor.react shape me act state).1
+  pub executor_sends_only : (shape : Shape) (me : Site) (act : Act) (state : executor.ExecutorState) →
+      Each Passes (executor.react shape me act state).1
   executor_sends_only shape me (Took m) state = subst (Each Passes) (sym (executor_silent shape me m state)) tt
   executor_sends_only shape me (Did (Execute id)) state = execution_sends shape me (executor.least (executor.waiting state)) state
   executor_sends_only shape me (Did Announce) state = tt
@@ -267,19 +280,18 @@ module _ (P : Command → Type 0) where
   executor_sends_only shape me (Did (Declare id)) state = tt
   executor_sends_only shape me (Did Crash) state = tt
 
-  submissions_pass : (shape : Shape) (client : Client) (o : Option Command) → ((c : Command) → o ≡ Some c → P c) → Each Passes (session.submissions shape client o)
+  submissions_pass : (shape : Shape) (client : Client) (o : Option Command) → ((c : Command) → o ≡ Some c → P c) →
+      Each Passes (session.submissions shape client o)
   submissions_pass shape client None h = tt
   submissions_pass shape client (Some c) h = each_to Passes (Session client.session) _ (MSubmit c) (λ to. h c refl)
 
-  nth_in : (xs : List Command) (n : ℕ) (c : Command) → nth xs n ≡ Some c → IsIn c xs
-  nth_in xs zero c e = absurd cc
-  nth_in xs (suc i) c e = in_get xs i c e
-
   -- a session sends its own commands
-  pub session_sends_only : (shape : Shape) (client : Client) (act : Act) (state : session.SessionState) → ((c : Command) → IsIn c client.commands → P c) →
+  pub session_sends_only : (shape : Shape) (client : Client) (act : Act) (state : session.SessionState) →
+      ((c : Command) → IsIn c client.commands → P c) →
       Each Passes (session.react shape client act state).1
   session_sends_only shape client (Took m) state h = subst (Each Passes) (sym (session_silent shape client m state)) tt
-  session_sends_only shape client (Did (Submit n)) state h = submissions_pass shape client (nth client.commands n) (λ c e. h c (nth_in client.commands n c e))
+  session_sends_only shape client (Did (Submit n)) state h =
+      submissions_pass shape client (nth client.commands n) (λ c e. h c (nth_in client.commands n c e))
   session_sends_only shape client (Did Announce) state h = tt
   session_sends_only shape client (Did (Recover id)) state h = tt
   session_sends_only shape client (Did (Declare id)) state h = tt

@@ -27,7 +27,8 @@ pub deliveries_stay : (script : Script) (older : List Entry) (e : Entry) (p : Pa
 unfolding deliveries_left
 deliveries_stay script older e p h delivery loss =
     let fates = fate_stays script older e p h in
-    let count : deliveries (e ∷ older) p.entry p.place ≡ deliveries older p.entry p.place = count_no (λ x. is_delivery_of p.entry p.place x.event) e older delivery in
+    let count : deliveries (e ∷ older) p.entry p.place ≡ deliveries older p.entry p.place =
+    count_no (λ x. is_delivery_of p.entry p.place x.event) e older delivery in
     let lost : was_lost (e ∷ older) p.entry p.place ≡ was_lost older p.entry p.place = ap (λ (b : Bool). b || was_lost older p.entry p.place) loss in
     cc
 
@@ -44,15 +45,18 @@ pub deliveries_fall : (script : Script) (older : List Entry) (e : Entry) (p : Pa
 unfolding deliveries_left
 deliveries_fall script older e p h =
     let fates = fate_stays script older e p h in
-    let more : deliveries older p.entry p.place ≤ deliveries (e ∷ older) p.entry p.place = elim (cases_Bool (is_delivery_of p.entry p.place e.event)) [
+    let more : deliveries older p.entry p.place ≤ deliveries (e ∷ older) p.entry p.place =
+    elim (cases_Bool (is_delivery_of p.entry p.place e.event)) [
       | inl t ↦ omega (arith, count_yes (λ (x : Entry). is_delivery_of p.entry p.place x.event) e older t)
       | inr f ↦ omega (arith, count_no (λ (x : Entry). is_delivery_of p.entry p.place x.event) e older f)
     ] in
-    let lost : was_lost older p.entry p.place ≡ true → was_lost (e ∷ older) p.entry p.place ≡ true = or_right (is_loss_of p.entry p.place e.event) _ in
+    let lost : was_lost older p.entry p.place ≡ true → was_lost (e ∷ older) p.entry p.place ≡ true =
+    or_right (is_loss_of p.entry p.place e.event) _ in
     subst (λ (fate : Fate). left_by fate (deliveries (e ∷ older) p.entry p.place) (was_lost (e ∷ older) p.entry p.place) ≤ deliveries_left script older p) (sym fates)
     (lower_by (fate_of script older p) _ _ _ _ more lost)
 
-delivered_by : (fate : Fate) (m n : ℕ) (before after : Bool) → n ≡ suc m → (IsLost fate → ⊥) → 0 < left_by fate m before → suc (left_by fate n after) ≡ left_by fate m before
+delivered_by : (fate : Fate) (m n : ℕ) (before after : Bool) → n ≡ suc m → (IsLost fate → ⊥) → 0 < left_by fate m before →
+    suc (left_by fate n after) ≡ left_by fate m before
 delivered_by Lost m n before after e h some = absurd (h tt)
 delivered_by (Times k) m n before after e h some = omega arith
 
@@ -64,12 +68,15 @@ unfolding deliveries_left
 delivery_falls script older e p h event live some =
     let fates = fate_stays script older e p h in
     let delivers : is_delivery_of p.entry p.place e.event ≡ true =
-    ap (is_delivery_of p.entry p.place) event ∙ and_from (p.entry == p.entry) (p.place == p.place) (eq-eqb p.entry p.entry refl) (eq-eqb p.place p.place refl) in
-    let count : deliveries (e ∷ older) p.entry p.place ≡ suc (deliveries older p.entry p.place) = count_yes (λ (x : Entry). is_delivery_of p.entry p.place x.event) e older delivers in
+    ap (is_delivery_of p.entry p.place) event ∙ and_from (p.entry == p.entry) (p.place == p.place) (eq-eqb p.entry p.entry refl)
+    (eq-eqb p.place p.place refl) in
+    let count : deliveries (e ∷ older) p.entry p.place ≡ suc (deliveries older p.entry p.place) =
+    count_yes (λ (x : Entry). is_delivery_of p.entry p.place x.event) e older delivers in
     subst (λ (fate : Fate). suc (left_by fate (deliveries (e ∷ older) p.entry p.place) (was_lost (e ∷ older) p.entry p.place)) ≡ deliveries_left script older p) (sym fates)
     (delivered_by (fate_of script older p) _ _ _ _ count live some)
 
-lost_by : (fate : Fate) (m n : ℕ) (before after : Bool) → after ≡ true → IsLost fate → 0 < left_by fate m before → suc (left_by fate n after) ≡ left_by fate m before
+lost_by : (fate : Fate) (m n : ℕ) (before after : Bool) → after ≡ true → IsLost fate → 0 < left_by fate m before →
+    suc (left_by fate n after) ≡ left_by fate m before
 lost_by Lost m n true after e h some = absurd (omega arith)
 lost_by Lost m n false true e h some = refl
 lost_by Lost m n false false e h some = absurd cc
@@ -83,7 +90,8 @@ unfolding deliveries_left
 loss_falls script older e p h event lost some =
     let fates = fate_stays script older e p h in
     let loses : is_loss_of p.entry p.place e.event ≡ true =
-    ap (is_loss_of p.entry p.place) event ∙ and_from (p.entry == p.entry) (p.place == p.place) (eq-eqb p.entry p.entry refl) (eq-eqb p.place p.place refl) in
+    ap (is_loss_of p.entry p.place) event ∙ and_from (p.entry == p.entry) (p.place == p.place) (eq-eqb p.entry p.entry refl)
+    (eq-eqb p.place p.place refl) in
     let gone : was_lost (e ∷ older) p.entry p.place ≡ true = or_left (is_loss_of p.entry p.place e.event) (was_lost older p.entry p.place) loses in
     subst (λ (fate : Fate). suc (left_by fate (deliveries (e ∷ older) p.entry p.place) (was_lost (e ∷ older) p.entry p.place)) ≡ deliveries_left script older p) (sym fates)
     (lost_by (fate_of script older p) _ _ _ _ gone lost some)
@@ -119,7 +127,8 @@ some_parts e = cc
 repeated_few : (script : Script) (from to : ActorName) (n : ℕ) (line : PlanLine) (times : ℕ) → IsPlanLineOf script line →
     repeated_by from to n line ≡ Some times → times ≤ 9
 repeated_few script from to n (Repeat a b ordinal k) times h e = elim (cases_Bool (same_name a from && same_name b to && (ordinal == n))) [
-  | inl t ↦ let same : k ≡ times = some_parts (sym (cond-true (same_name a from && same_name b to && (ordinal == n)) (Some k) None t) ∙ e) in omega (arith, h.4)
+  | inl t ↦ let same : k ≡ times =
+      some_parts (sym (cond-true (same_name a from && same_name b to && (ordinal == n)) (Some k) None t) ∙ e) in omega (arith, h.4)
   | inr f ↦ let nothing : None ≡ Some times = sym (cond-false (same_name a from && same_name b to && (ordinal == n)) (Some k) None f) ∙ e in absurd cc
 ]
 repeated_few script from to n (RepeatAll k) times h e = absurd cc

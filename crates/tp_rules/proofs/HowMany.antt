@@ -1,5 +1,5 @@
 -- How many messages one act sends, at most: 63, for each shape. Used for the end of runs.
-use Rattle.std.proofs.Common.{◌≡◌, ℕ, zero, suc, ◌+◌, ◌*◌, ◌≤◌, List, [], ◌∷◌, ◌++◌, Option, Some, None, length, map, cond, refl, ap, ◌∙◌, arith}
+use Rattle.std.proofs.Common.{◌≡◌, ℕ, ◌*◌, ◌≤◌, List, [], Option, Some, None, length, map, cond, ap, ◌∙◌, arith}
 use Rattle.std.specs.Prelude.{filter, ◌==◌, ◌&&◌, nat_lt, not, is_some}
 use Rattle.std.specs.List.{flat_map}
 use Rattle.std.proofs.lemmas.Bool.{cond_both}
@@ -32,20 +32,9 @@ use Rattle.tp_topology.specs.Shape.{Shape, IsShape}
 use Rattle.tp_wire.specs.declared.message.Body.{Body}
 use Rattle.tp_wire.specs.declared.message.Body.TheVariants.{MSubmit, MPropose, MPayload, MProposeAck, MBump, MConsensus, MConsensusAck, MCommit, MRec, MRecAck, MPromises, MCommitted, MStable, MResult}
 use Rattle.tp_wire.specs.declared.message.Message.{Message}
+use Rattle.tp_rules.proofs.UpTo.{length-up_to, map_length, flat_length}
 use Rattle.tp_rules.proofs.Tallies.{filter_length}
 use Rattle.tp_rules.proofs.LaterKinds.{executor_silent, session_silent}
-
-pub length-up_to : (n : ℕ) → length (up_to n) ≡ n
-length-up_to zero = refl
-length-up_to (suc n) = let rest = length-up_to n in let both : length (up_to n ++ suc n ∷ []) ≡ length (up_to n) + 1 = length-append (up_to n) (suc n ∷ []) in omega arith
-
-pub flat_length : {X Y : Type 0} (f : X → List Y) (n : ℕ) (xs : List X) → ((x : X) → length (f x) ≤ n) → length (flat_map f xs) ≤ length xs * n
-flat_length f n [] h = omega arith
-flat_length f n (x ∷ xs) h = omega (arith, length-append (f x) (flat_map f xs), h x, flat_length f n xs h)
-
-pub map_length : {X Y : Type 0} (f : X → Y) (xs : List X) → length (map f xs) ≡ length xs
-map_length f [] = refl
-map_length f (x ∷ xs) = ap (λ (n : ℕ). suc n) (map_length f xs)
 
 to_each_length : (from : ActorName) (names : List ActorName) (body : Body) → length (to_each from names body) ≡ length names
 to_each_length from names body = map_length (λ to. message from to body) names
@@ -70,8 +59,10 @@ module _ (s : Setting) (good : IsShape s.shape) (me : Site) where
   unfolding process.bumps
   bumps_short c t =
       let names = map (λ q. Process (site q me.rank.0)) (others_accessed s.shape c me.partition.0) in
-      let sends : length (to_each (Process me) names (MBump c.id (record { 0 = t }))) ≡ length names = to_each_length (Process me) names (MBump c.id (record { 0 = t })) in
-      let same : length names ≡ length (others_accessed s.shape c me.partition.0) = map_length (λ q. Process (site q me.rank.0)) (others_accessed s.shape c me.partition.0) in
+      let sends : length (to_each (Process me) names (MBump c.id (record { 0 = t }))) ≡ length names =
+      to_each_length (Process me) names (MBump c.id (record { 0 = t })) in
+      let same : length names ≡ length (others_accessed s.shape c me.partition.0) =
+      map_length (λ q. Process (site q me.rank.0)) (others_accessed s.shape c me.partition.0) in
       omega (arith, others_length s.shape c me.partition.0, good.few_partitions)
 
   proposals_short : (c : Command) (t : ℕ) → length (process.proposals s me c t) ≤ 7
@@ -88,9 +79,11 @@ module _ (s : Setting) (good : IsShape s.shape) (me : Site) where
   commits_short (Some c) t =
       let all = flat_map (processes_of s.shape) (accessed s.shape c) in
       let names = filter (λ to. not (same_name to (Process me))) all in
-      let sends : length (to_each (Process me) names (MCommit c me.partition (record { 0 = t }))) ≡ length names = to_each_length (Process me) names (MCommit c me.partition (record { 0 = t })) in
+      let sends : length (to_each (Process me) names (MCommit c me.partition (record { 0 = t }))) ≡ length names =
+      to_each_length (Process me) names (MCommit c me.partition (record { 0 = t })) in
       let few : length names ≤ length all = filter_length (λ to. not (same_name to (Process me))) all in
-      let count : length all ≤ length (accessed s.shape c) * 7 = flat_length (processes_of s.shape) 7 (accessed s.shape c) (λ p. omega (arith, processes_length s.shape p, good.few_replicas)) in
+      let count : length all ≤ length (accessed s.shape c) * 7 =
+      flat_length (processes_of s.shape) 7 (accessed s.shape c) (λ p. omega (arith, processes_length s.shape p, good.few_replicas)) in
       omega (arith, accessed_length s.shape c, good.few_partitions)
 
   put_short : (b t : ℕ) (o : Option Command) → length (process.put_to_vote s.shape me b t o) ≤ 7
@@ -98,13 +91,15 @@ module _ (s : Setting) (good : IsShape s.shape) (me : Site) where
   put_short b t (Some c) =
       omega (arith, to_each_length (Process me) (processes_of s.shape me.partition.0) (MConsensus c (record { 0 = t }) b), processes_length s.shape me.partition.0, good.few_replicas)
 
-  finished_short : (id : CommandId) (sheet : Sheet) (o : Option Command) (final : Option ℕ) (state : process.ProcessState) → length (process.finished me id sheet o final state).1 ≤ 1
+  finished_short : (id : CommandId) (sheet : Sheet) (o : Option Command) (final : Option ℕ) (state : process.ProcessState) →
+      length (process.finished me id sheet o final state).1 ≤ 1
   finished_short id sheet None None state = omega arith
   finished_short id sheet None (Some t) state = omega arith
   finished_short id sheet (Some c) None state = omega arith
   finished_short id sheet (Some c) (Some t) state = omega arith
 
-  learned_short : (id : CommandId) (q t : ℕ) (sheet : Sheet) (state : process.ProcessState) → length (process.learned s.shape me id q t sheet state).1 ≤ 1
+  learned_short : (id : CommandId) (q t : ℕ) (sheet : Sheet) (state : process.ProcessState) →
+      length (process.learned s.shape me id q t sheet state).1 ≤ 1
   learned_short id q t sheet state =
       let known = with_stamp q t sheet in
       let final = final_stamp s.shape known known.command in
@@ -117,7 +112,8 @@ module _ (s : Setting) (good : IsShape s.shape) (me : Site) where
       let moved = process.learned s.shape me id me.partition.0 t sheet state in
       omega (arith, length-append sends moved.1, commits_short sheet.command t, learned_short id me.partition.0 t sheet state)
 
-  chosen_short : (id : CommandId) (choice : FastChoice) (sheet : Sheet) (state : process.ProcessState) → IsShort (process.chosen s me id choice sheet state)
+  chosen_short : (id : CommandId) (choice : FastChoice) (sheet : Sheet) (state : process.ProcessState) →
+      IsShort (process.chosen s me id choice sheet state)
   chosen_short id (Fast t) sheet state = decided_short id t.0 sheet state
   chosen_short id (Slow t) sheet state = omega (arith, put_short me.rank.0 t.0 sheet.command)
 
@@ -194,12 +190,14 @@ module _ (s : Setting) (good : IsShape s.shape) (me : Site) where
   process_short (Did (Execute id)) state = omega arith
   process_short (Did Crash) state = omega arith
 
-execution_short : (shape : Shape) (me : Site) (o : Option executor.Committed) (state : executor.ExecutorState) → length (executor.execute_least shape me o state).1 ≤ 63
+execution_short : (shape : Shape) (me : Site) (o : Option executor.Committed) (state : executor.ExecutorState) →
+    length (executor.execute_least shape me o state).1 ≤ 63
 execution_short shape me None state = omega arith
 execution_short shape me (Some c) state = omega arith
 
 executor_short : (shape : Shape) (me : Site) (act : Act) (state : executor.ExecutorState) → length (executor.react shape me act state).1 ≤ 63
-executor_short shape me (Took m) state = let none : length (executor.react shape me (Took m) state).1 ≡ 0 = ap length (executor_silent shape me m state) in omega arith
+executor_short shape me (Took m) state = let none : length (executor.react shape me (Took m) state).1 ≡ 0 =
+    ap length (executor_silent shape me m state) in omega arith
 executor_short shape me (Did (Execute id)) state = execution_short shape me (executor.least (executor.waiting state)) state
 executor_short shape me (Did Announce) state = omega arith
 executor_short shape me (Did (Submit n)) state = omega arith
@@ -211,12 +209,15 @@ submissions_short : (shape : Shape) → IsShape shape → (client : Client) (o :
 submissions_short shape good client None = omega arith
 submissions_short shape good client (Some c) =
     let names = map (λ p. Process (site p client.home)) (accessed shape c) in
-    let sends : length (to_each (Session client.session) names (MSubmit c)) ≡ length names = to_each_length (Session client.session) names (MSubmit c) in
+    let sends : length (to_each (Session client.session) names (MSubmit c)) ≡ length names =
+    to_each_length (Session client.session) names (MSubmit c) in
     let same : length names ≡ length (accessed shape c) = map_length (λ p. Process (site p client.home)) (accessed shape c) in
     omega (arith, accessed_length shape c, good.few_partitions)
 
-session_short : (shape : Shape) → IsShape shape → (client : Client) (act : Act) (state : session.SessionState) → length (session.react shape client act state).1 ≤ 63
-session_short shape good client (Took m) state = let none : length (session.react shape client (Took m) state).1 ≡ 0 = ap length (session_silent shape client m state) in omega arith
+session_short : (shape : Shape) → IsShape shape → (client : Client) (act : Act) (state : session.SessionState) →
+    length (session.react shape client act state).1 ≤ 63
+session_short shape good client (Took m) state = let none : length (session.react shape client (Took m) state).1 ≡ 0 =
+    ap length (session_silent shape client m state) in omega arith
 session_short shape good client (Did (Submit n)) state = submissions_short shape good client (nth client.commands n)
 session_short shape good client (Did Announce) state = omega arith
 session_short shape good client (Did (Recover id)) state = omega arith
@@ -224,12 +225,16 @@ session_short shape good client (Did (Declare id)) state = omega arith
 session_short shape good client (Did (Execute id)) state = omega arith
 session_short shape good client (Did Crash) state = omega arith
 
-act_short : (script : Script) → IsShape script.topology → (actor : ActorName) (before : List Act) (act : Act) → length (outputs_of (identity_in script actor) before act) ≤ 63
-act_short script good (Process s) before act = process_short (ring_setting script.topology) good s act (process.state_after (ring_setting script.topology) s before)
+act_short : (script : Script) → IsShape script.topology → (actor : ActorName) (before : List Act) (act : Act) →
+    length (outputs_of (identity_in script actor) before act) ≤ 63
+act_short script good (Process s) before act =
+    process_short (ring_setting script.topology) good s act (process.state_after (ring_setting script.topology) s before)
 act_short script good (Executor s) before act = executor_short script.topology s act (executor.state_after script.topology s before)
-act_short script good (Session s) before act = session_short script.topology good (client_of script s) act (session.state_after script.topology (client_of script s) before)
+act_short script good (Session s) before act =
+    session_short script.topology good (client_of script s) act (session.state_after script.topology (client_of script s) before)
 
-event_short : (script : Script) → IsShape script.topology → (older : List Entry) (actor : ActorName) (o : Option Act) → length (outputs_by script older actor o) ≤ 63
+event_short : (script : Script) → IsShape script.topology → (older : List Entry) (actor : ActorName) (o : Option Act) →
+    length (outputs_by script older actor o) ≤ 63
 event_short script good older actor None = omega arith
 event_short script good older actor (Some act) = act_short script good actor (acts older actor) act
 

@@ -32,8 +32,10 @@ IsAfter k m = k < place_of m.body
 
 row_sends_later : (s : Setting) (me : Site) (from : ActorName) (body : Body) (state : process.ProcessState) →
     EachSent (IsAfter (place_of body)) (process.on_body s me from body state)
-row_sends_later s me from (MSubmit c) state = on_submit_sends (IsAfter 3) me s c state (λ to t. omega arith) (λ to. omega arith) (λ to id t. omega arith)
-row_sends_later s me from (MPropose c floor) state = on_propose_sends (IsAfter 4) me s from c floor.0 state (λ t. omega arith) (λ to id t. omega arith)
+row_sends_later s me from (MSubmit c) state =
+    on_submit_sends (IsAfter 3) me s c state (λ to t. omega arith) (λ to. omega arith) (λ to id t. omega arith)
+row_sends_later s me from (MPropose c floor) state =
+    on_propose_sends (IsAfter 4) me s from c floor.0 state (λ t. omega arith) (λ to id t. omega arith)
 row_sends_later s me from (MPayload c) state = on_payload_sends (IsAfter 4) me c state
 row_sends_later s me from (MProposeAck id t) state =
     on_propose_ack_sends (IsAfter 5) me s from id t.0 state (λ c to t e. omega arith) (λ c t e. omega arith) (λ c to t b e. omega arith)
@@ -66,8 +68,10 @@ executor_row_silent me from (MPromises lo hi pairs) state =
     let next : executor.ExecutorState = record state { told = record { rank = rank_of from; lo = lo; hi = hi; attached = pairs } ∷ state.told } in
     cond_both (partition_of from == me.partition.0) (next, []) (state, []) (λ (moved : executor.Moved). moved.1 ≡ []) (λ e. refl) (λ e. refl)
 executor_row_silent me from (MCommitted c t) state =
-    let next : executor.ExecutorState = record state { committed = record { key = record { stamp = record { 0 = t.0 }; id = c.id }; command = c } ∷ state.committed } in
-    cond_both (has same_id c.id (executor.committed_ids state)) (state, []) (next, []) (λ (moved : executor.Moved). moved.1 ≡ []) (λ e. refl) (λ e. refl)
+    let next : executor.ExecutorState =
+    record state { committed = record { key = record { stamp = record { 0 = t.0 }; id = c.id }; command = c } ∷ state.committed } in
+    cond_both (has same_id c.id (executor.committed_ids state)) (state, []) (next, []) (λ (moved : executor.Moved). moved.1 ≡ []) (λ e. refl)
+    (λ e. refl)
 executor_row_silent me from (MSubmit c) state = refl
 executor_row_silent me from (MPropose c floor) state = refl
 executor_row_silent me from (MPayload c) state = refl
@@ -103,7 +107,8 @@ session_row_silent shape client (MPromises lo hi pairs) state = refl
 session_row_silent shape client (MCommitted c t) state = refl
 session_row_silent shape client (MStable id) state = refl
 
-pub session_silent : (shape : Shape) (client : Client) (m : Message) (state : session.SessionState) → (session.react shape client (Took m) state).1 ≡ []
+pub session_silent : (shape : Shape) (client : Client) (m : Message) (state : session.SessionState) →
+    (session.react shape client (Took m) state).1 ≡ []
 session_silent shape client m state =
     cond_both (same_name m.to (Session client.session) && is_name_of shape m.from && is_body_at shape 0 m.body)
     (session.on_body shape client m.body state) (state, []) (λ (moved : session.Moved). moved.1 ≡ [])
@@ -118,7 +123,8 @@ results_are_later shape me state = of_least (executor.least (executor.waiting st
     of_least (Some c) = (omega arith, tt)
 
 -- a submission sends submissions
-pub submissions_are_later : (shape : Shape) (client : Client) (n : ℕ) (state : session.SessionState) → Each (IsAfter 1) (session.on_submit shape client n state).1
+pub submissions_are_later : (shape : Shape) (client : Client) (n : ℕ) (state : session.SessionState) →
+    Each (IsAfter 1) (session.on_submit shape client n state).1
 submissions_are_later shape client n state = of_command (nth client.commands n)
   where
     of_command : (o : Option Command) → Each (IsAfter 1) (session.submissions shape client o)
@@ -128,8 +134,10 @@ submissions_are_later shape client n state = of_command (nth client.commands n)
 -- at a delivery to any actor
 pub sends_later : (script : Script) (actor : ActorName) (before : List Act) (m : Message) →
     Each (IsAfter (place_of m.body)) (outputs_of (identity_in script actor) before (Took m))
-sends_later script (Process s) before m = process_sends_later (ring_setting script.topology) s m (process.state_after (ring_setting script.topology) s before)
+sends_later script (Process s) before m =
+    process_sends_later (ring_setting script.topology) s m (process.state_after (ring_setting script.topology) s before)
 sends_later script (Executor s) before m =
     subst (Each (IsAfter (place_of m.body))) (sym (executor_silent script.topology s m (executor.state_after script.topology s before))) tt
 sends_later script (Session s) before m =
-    subst (Each (IsAfter (place_of m.body))) (sym (session_silent script.topology (client_of script s) m (session.state_after script.topology (client_of script s) before))) tt
+    subst (Each (IsAfter (place_of m.body)))
+    (sym (session_silent script.topology (client_of script s) m (session.state_after script.topology (client_of script s) before))) tt

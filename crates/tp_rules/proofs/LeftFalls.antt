@@ -192,7 +192,8 @@ module _ (script : Script) (accepted : IsAccepted script) (older : List Entry) (
       lowers_16 le h = lowers_15 (omega arith) (inr (unexecuted_stays script older e, h))
 
   -- a message of each kind, with one delivery less
-  by_body : (body : Body) → Each (IsAfter (place_of body)) e.outputs → undelivered script (e ∷ older) (place_of body) < undelivered script older (place_of body) →
+  by_body : (body : Body) → Each (IsAfter (place_of body)) e.outputs →
+      undelivered script (e ∷ older) (place_of body) < undelivered script older (place_of body) →
       (11 < place_of body → (act : Act) → act_of older e.event ≡ Some act → AddsNone act) → Lowers counts
   by_body (MSubmit c) later less silent = lowers_3 (inl (less, rises_4))
   by_body (MRec c b) later less silent = lowers_3 (inl (less, rises_4))
@@ -213,7 +214,8 @@ module _ (script : Script) (accepted : IsAccepted script) (older : List Entry) (
   sends follows o is = follows.outputs ∙ ap (outputs_by script older e.actor) is
 
   -- a delivery
-  delivered : IsLegal script older e → (entry place : ℕ) → e.event ≡ Deliver entry place → (m : Message) → output_at older entry place ≡ Some m → Lowers counts
+  delivered : IsLegal script older e → (entry place : ℕ) → e.event ≡ Deliver entry place → (m : Message) → output_at older entry place ≡ Some m →
+      Lowers counts
   delivered legal entry place event m is =
       let p = parcel entry place m in
       let fate : FollowsFate script older (Deliver entry place) = subst (FollowsFate script older) event legal.plan.fate in
@@ -226,7 +228,8 @@ module _ (script : Script) (accepted : IsAccepted script) (older : List Entry) (
       (λ high act same. let which : Took m ≡ act = some_act (sym takes ∙ same) in subst AddsNone which high)
 
   -- a loss
-  dropped : IsLegal script older e → (entry place : ℕ) → e.event ≡ Dropped entry place → (m : Message) → output_at older entry place ≡ Some m → Lowers counts
+  dropped : IsLegal script older e → (entry place : ℕ) → e.event ≡ Dropped entry place → (m : Message) → output_at older entry place ≡ Some m →
+      Lowers counts
   dropped legal entry place event m is =
       let p = parcel entry place m in
       let fate : FollowsFate script older (Dropped entry place) = subst (FollowsFate script older) event legal.plan.fate in
@@ -242,7 +245,8 @@ module _ (script : Script) (accepted : IsAccepted script) (older : List Entry) (
   announces_later (Executor s) before = tt
   announces_later (Session s) before = tt
 
-  executes_later : (actor : ActorName) (before : List Act) (id : CommandId) → Each (IsAfter 15) (outputs_of (identity_in script actor) before (Did (Execute id)))
+  executes_later : (actor : ActorName) (before : List Act) (id : CommandId) →
+      Each (IsAfter 15) (outputs_of (identity_in script actor) before (Did (Execute id)))
   executes_later (Process s) before id = tt
   executes_later (Executor s) before id = results_are_later script.topology s (executor.state_after script.topology s before)
   executes_later (Session s) before id = tt
@@ -261,15 +265,19 @@ module _ (script : Script) (accepted : IsAccepted script) (older : List Entry) (
   by_itself history legal Crash event = planned history legal (ap is_planned event)
   by_itself history legal Announce event =
       let does : act_of older e.event ≡ Some (Did Announce) = ap (act_of older) event in
-      let later : Each (IsAfter 11) e.outputs = subst (Each (IsAfter 11)) (sym (sends legal.rules (Some (Did Announce)) does)) (announces_later e.actor (acts older e.actor)) in
+      let later : Each (IsAfter 11) e.outputs =
+      subst (Each (IsAfter 11)) (sym (sends legal.rules (Some (Did Announce)) does)) (announces_later e.actor (acts older e.actor)) in
       lowers_11 11 later (omega arith) (inl (unannounced_falls script older e legal.rules event, rises_12))
-  by_itself history legal (Declare id) event = absurd (declare_may script older e.actor id (subst (MayHappen script older e.actor) event legal.rules.may))
+  by_itself history legal (Declare id) event =
+      absurd (declare_may script older e.actor id (subst (MayHappen script older e.actor) event legal.rules.may))
   by_itself history legal (Execute id) event =
       let does : act_of older e.event ≡ Some (Did (Execute id)) = ap (act_of older) event in
-      let later : Each (IsAfter 15) e.outputs = subst (Each (IsAfter 15)) (sym (sends legal.rules (Some (Did (Execute id))) does)) (executes_later e.actor (acts older e.actor) id) in
+      let later : Each (IsAfter 15) e.outputs =
+      subst (Each (IsAfter 15)) (sym (sends legal.rules (Some (Did (Execute id))) does)) (executes_later e.actor (acts older e.actor) id) in
       let silent : (act : Act) → act_of older e.event ≡ Some act → AddsNone act =
       (λ act same. let which : Did (Execute id) ≡ act = some_act (sym does ∙ same) in subst AddsNone which tt) in
-      lowers_15 15 later silent (omega arith) (inl (unexecuted_falls script older e id (free_history script older history) legal.rules event, rises_16))
+      lowers_15 15 later silent (omega arith)
+      (inl (unexecuted_falls script older e id (free_history script older history) legal.rules event, rises_16))
 
   by_event : IsHistory script older → IsLegal script older e → (event : Event) → e.event ≡ event → Lowers counts
   by_event history legal (Deliver entry place) event =
@@ -281,7 +289,8 @@ module _ (script : Script) (accepted : IsAccepted script) (older : List Entry) (
   by_event history legal (OfItself inner) event = by_itself history legal inner event
 
 -- each entry of a run lowers what is left
-pub left_falls : (script : Script) (older : List Entry) (e : Entry) → IsAccepted script → IsHistory script (e ∷ older) → left script (e ∷ older) < left script older
+pub left_falls : (script : Script) (older : List Entry) (e : Entry) → IsAccepted script → IsHistory script (e ∷ older) →
+    left script (e ∷ older) < left script older
 unfolding left
 left_falls script older e accepted history =
     weight_falls (counts script older) (counts script (e ∷ older))

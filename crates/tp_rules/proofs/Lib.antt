@@ -38,6 +38,7 @@ pub mod NoPlan
 pub mod OwnSteps
 pub mod Parcels
 pub mod Provenance
+pub mod RunsEnd
 pub mod Selections
 pub mod SendsOfProcess
 pub mod SitesCounted
@@ -47,4 +48,5 @@ pub mod Undelivered
 pub mod Unentered
 pub mod Unexecuted
 pub mod Unsubmitted
+pub mod UpTo
 pub mod Weights

@@ -12,6 +12,7 @@ use Rattle.tp_rules.specs.Plan.{is_counted_to, ordinal_of, fate_of, fate_by}
 use Rattle.tp_rules.specs.Tables.{nth}
 use Rattle.tp_rules.specs.declared.event.Entry.{Entry}
 use Rattle.tp_rules.specs.declared.event.Parcel.{Parcel}
+use Rattle.tp_rules.proofs.Distinct.{Distinct}
 use Rattle.tp_rules.proofs.Tallies.{filter_none}
 use Rattle.tp_script.specs.declared.script.Script.{Script}
 use Rattle.tp_wire.specs.declared.message.Message.{Message}
@@ -23,7 +24,8 @@ parcel entry place m = record { entry = entry; place = place; message = m }
 pub numbered_parts : (n k : ℕ) (ms : List Message) (p : Parcel) → IsIn p (numbered n k ms) →
     (p.entry ≡ n) × (k ≤ p.place) × IsIn p.message ms
 numbered_parts n k [] p h = absurd h
-numbered_parts n k (m ∷ ms) p (inl e) = (ap (λ (q : Parcel). q.entry) e, (let same : p.place ≡ k = ap (λ (q : Parcel). q.place) e in omega arith), inl (ap (λ (q : Parcel). q.message) e))
+numbered_parts n k (m ∷ ms) p (inl e) =
+    (ap (λ (q : Parcel). q.entry) e, (let same : p.place ≡ k = ap (λ (q : Parcel). q.place) e in omega arith), inl (ap (λ (q : Parcel). q.message) e))
 numbered_parts n k (m ∷ ms) p (inr h) = let rest = numbered_parts n (suc k) ms p h in (rest.0, omega (arith, rest.1), inr rest.2)
 
 pub length-numbered : (n k : ℕ) (ms : List Message) → length (numbered n k ms) ≡ length ms
@@ -68,7 +70,8 @@ numbered_nth n ms p h =
     ap (nth ms) same ∙ found.2
 
 -- what stands at a place was sent
-pub output_sent : (older : List Entry) (entry place : ℕ) (m : Message) → output_at older entry place ≡ Some m → IsIn (parcel entry place m) (sent older)
+pub output_sent : (older : List Entry) (entry place : ℕ) (m : Message) → output_at older entry place ≡ Some m →
+    IsIn (parcel entry place m) (sent older)
 output_sent [] entry place m e = absurd cc
 output_sent (x ∷ older) entry place m e = elim (cases_eq entry (suc (length older))) [
   | inl same ↦
@@ -76,7 +79,8 @@ output_sent (x ∷ older) entry place m e = elim (cases_eq entry (suc (length ol
       in_right (sent older) _ _ (subst (λ (n : ℕ). IsIn (parcel n place m) (numbered (suc (length older)) 1 x.outputs)) (sym same)
       (nth_numbered (suc (length older)) place x.outputs m here))
   | inr apart ↦
-      let before : output_at older entry place ≡ Some m = sym (cond-false (entry == suc (length older)) _ _ (ne_eqb entry (suc (length older)) apart)) ∙ e in
+      let before : output_at older entry place ≡ Some m =
+      sym (cond-false (entry == suc (length older)) _ _ (ne_eqb entry (suc (length older)) apart)) ∙ e in
       in_left (sent older) _ _ (output_sent older entry place m before)
 ]
 
@@ -102,9 +106,29 @@ same_parcel older a b h k entries places =
     let messages : a.message ≡ b.message = cc in
     λ i. record { entry = entries i; place = places i; message = messages i }
 
+numbered_once : (n k : ℕ) (ms : List Message) → Distinct (numbered n k ms)
+numbered_once n k [] = tt
+numbered_once n k (m ∷ ms) = (λ h. omega (arith, (numbered_parts n (suc k) ms (parcel n k m) h).1), numbered_once n (suc k) ms)
+
+append_once : (ps qs : List Parcel) → Distinct ps → Distinct qs → ((p : Parcel) → IsIn p ps → IsIn p qs → ⊥) → Distinct (ps ++ qs)
+append_once [] qs h k apart = k
+append_once (p ∷ ps) qs h k apart =
+    (λ there. elim (in_either ps qs p there) [ inl left ↦ h.0 left | inr right ↦ apart p (inl refl) right ], append_once ps qs h.1 k (λ q l r. apart q (inr l) r))
+
+-- no output stands twice among those sent
+pub sent_once : (older : List Entry) → Distinct (sent older)
+sent_once [] = tt
+sent_once (x ∷ older) =
+    let new = numbered (suc (length older)) 1 x.outputs in
+    append_once (sent older) new (sent_once older) (numbered_once (suc (length older)) 1 x.outputs) (λ p old fresh.
+    let within = sent_within older p old in
+    let parts = numbered_parts (suc (length older)) 1 x.outputs p fresh in
+    omega (arith, within.1, parts.0))
+
 -- a newer output is not counted in the number of an older one
 not_counted : (p other : Parcel) → p.entry < other.entry → is_counted_to p other ≡ false
-not_counted p other later = and_right _ _ (or_from _ _ (le-ltb other.entry p.entry (omega arith)) (and_left _ _ (ne_eqb other.entry p.entry (λ e. omega arith))))
+not_counted p other later =
+    and_right _ _ (or_from _ _ (le-ltb other.entry p.entry (omega arith)) (and_left _ _ (ne_eqb other.entry p.entry (λ e. omega arith))))
 
 pub ordinal_stays : (older : List Entry) (e : Entry) (p : Parcel) → IsIn p (sent older) → ordinal_of (e ∷ older) p ≡ ordinal_of older p
 ordinal_stays older e p h =

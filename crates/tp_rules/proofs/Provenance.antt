@@ -36,7 +36,8 @@ IsOf script c = IsIn c script.commands
 abbrev pub SentPasses : Script → List Entry → Type 0
 SentPasses script older = Each (λ p. Carries (IsOf script) p.message.body) (sent older)
 
-output_passes : (script : Script) (older : List Entry) (entry place : ℕ) (m : Message) → SentPasses script older → output_at older entry place ≡ Some m → Carries (IsOf script) m.body
+output_passes : (script : Script) (older : List Entry) (entry place : ℕ) (m : Message) → SentPasses script older →
+    output_at older entry place ≡ Some m → Carries (IsOf script) m.body
 output_passes script older entry place m h e =
     each_in (λ (p : Parcel). Carries (IsOf script) p.message.body) (sent older) (parcel entry place m) h (output_sent older entry place m e)
 
@@ -54,14 +55,16 @@ act_passes script older (Deliver entry place) h = of_output (output_at older ent
 act_passes script older (Dropped entry place) h = tt
 act_passes script older (OfItself inner) h = tt
 
-one_more : (script : Script) (o : Option Act) (acts : List Act) → PassesIf script o → Each (Takes (IsOf script)) acts → Each (Takes (IsOf script)) (with_act o acts)
+one_more : (script : Script) (o : Option Act) (acts : List Act) → PassesIf script o → Each (Takes (IsOf script)) acts →
+    Each (Takes (IsOf script)) (with_act o acts)
 one_more script None acts h k = k
 one_more script (Some act) acts h k = (h, k)
 
 pub acts_pass : (script : Script) (older : List Entry) (a : ActorName) → SentPasses script older → Each (Takes (IsOf script)) (acts older a)
 acts_pass script [] a h = tt
 acts_pass script (e ∷ older) a h =
-    let before : SentPasses script older = each_left (λ (p : Parcel). Carries (IsOf script) p.message.body) (sent older) (numbered (suc (length older)) 1 e.outputs) h in
+    let before : SentPasses script older =
+    each_left (λ (p : Parcel). Carries (IsOf script) p.message.body) (sent older) (numbered (suc (length older)) 1 e.outputs) h in
     let rest = acts_pass script older a before in
     cond_both (same_name e.actor a) (with_act (act_of older e.event) (acts older a)) (acts older a) (Each (Takes (IsOf script)))
     (λ t. one_more script (act_of older e.event) (acts older a) (act_passes script older e.event before) rest) (λ f. rest)
@@ -78,7 +81,8 @@ outputs_pass : (script : Script) (actor : ActorName) (before : List Act) (act : 
 outputs_pass script (Process s) before act h p =
     let setting = ring_setting script.topology in
     process_sends_only (IsOf script) setting s act (process.state_after setting s before) (process_keeps_only (IsOf script) setting s before h) p
-outputs_pass script (Executor s) before act h p = executor_sends_only (IsOf script) script.topology s act (executor.state_after script.topology s before)
+outputs_pass script (Executor s) before act h p =
+    executor_sends_only (IsOf script) script.topology s act (executor.state_after script.topology s before)
 outputs_pass script (Session s) before act h p =
     session_sends_only (IsOf script) script.topology (client_of script s) act (session.state_after script.topology (client_of script s) before)
     (λ c there. (filter_in (λ (d : Command). d.id.session.0 == s.0) script.commands c there).0)
@@ -101,9 +105,13 @@ sent_provenance script (e ∷ older) h =
 -- each command that a process keeps, under its own identifier
 pub kept_provenance : (script : Script) (older : List Entry) → IsFreeHistory script older → (s : Site) →
     KeepsOnly (IsOf script) (process.state_after (ring_setting script.topology) s (acts older (Process s)))
-kept_provenance script older h s = process_keeps_only (IsOf script) (ring_setting script.topology) s (acts older (Process s)) (acts_pass script older (Process s) (sent_provenance script older h))
+kept_provenance script older h s =
+    process_keeps_only (IsOf script) (ring_setting script.topology) s (acts older (Process s))
+    (acts_pass script older (Process s) (sent_provenance script older h))
 
 -- each command that an executor has committed
 pub committed_provenance : (script : Script) (older : List Entry) → IsFreeHistory script older → (s : Site) →
     CommitsOnly (IsOf script) (executor.state_after script.topology s (acts older (Executor s)))
-committed_provenance script older h s = executor_commits_only (IsOf script) script.topology s (acts older (Executor s)) (acts_pass script older (Executor s) (sent_provenance script older h))
+committed_provenance script older h s =
+    executor_commits_only (IsOf script) script.topology s (acts older (Executor s))
+    (acts_pass script older (Executor s) (sent_provenance script older h))

@@ -72,7 +72,8 @@ module _ (M : Message → Type 0) (me : Site) where
       EachSent M (learned shape me id q t sheet state)
   learned_sends shape id q t sheet state h =
       let known = with_stamp q t sheet in
-      cond_both (is_some (stamp_of sheet q)) (with_sheet id sheet state, []) (finished me id known known.command (final_stamp shape known known.command) state)
+      cond_both (is_some (stamp_of sheet q)) (with_sheet id sheet state, [])
+      (finished me id known known.command (final_stamp shape known known.command) state)
       (EachSent M) (λ e. tt) (λ e. finished_sends id known known.command (final_stamp shape known known.command) state h)
 
   pub decided_sends : (shape : Shape) (id : CommandId) (t : ℕ) (sheet : Sheet) (state : ProcessState) →
@@ -84,7 +85,8 @@ module _ (M : Message → Type 0) (me : Site) where
       (commits_send shape sheet.command t (λ c to e. h c to t e)) (learned_sends shape id me.partition.0 t sheet state k)
 
   pub on_submit_sends : (s : Setting) (c : Command) (state : ProcessState) →
-      ((to : ActorName) (t : ℕ) → M (message (Process me) to (MPropose c (stamp t)))) → ((to : ActorName) → M (message (Process me) to (MPayload c))) →
+      ((to : ActorName) (t : ℕ) → M (message (Process me) to (MPropose c (stamp t)))) →
+      ((to : ActorName) → M (message (Process me) to (MPayload c))) →
       ((to : ActorName) (id : CommandId) (t : ℕ) → M (message (Process me) to (MBump id (stamp t)))) →
       EachSent M (on_submit s me c state)
   on_submit_sends s c state h k l =
@@ -134,7 +136,8 @@ module _ (M : Message → Type 0) (me : Site) where
       EachSent M (on_propose_ack s me from id t state)
   on_propose_ack_sends s from id t state h k l =
       let rank = rank_of from in
-      cond_both (can_acknowledge s me.partition.0 me.rank.0 rank (state.sheets id)) (gathered s me id (acknowledged rank t (state.sheets id)) state) (state, []) (EachSent M)
+      cond_both (can_acknowledge s me.partition.0 me.rank.0 rank (state.sheets id)) (gathered s me id (acknowledged rank t (state.sheets id)) state)
+      (state, []) (EachSent M)
       (λ e. gathered_sends s id (acknowledged rank t (state.sheets id)) state h k l) (λ e. tt)
 
   pub on_commit_sends : (s : Setting) (c : Command) (q t : ℕ) (state : ProcessState) →
@@ -146,7 +149,8 @@ module _ (M : Message → Type 0) (me : Site) where
       (λ e. learned_sends s.shape c.id q t sheet state h) (λ e. tt)
 
   pub on_announce_sends : (shape : Shape) (state : ProcessState) →
-      ((to : ActorName) (lo hi : ℕ) (pairs : List Pair) → M (message (Process me) to (MPromises lo hi pairs))) → EachSent M (on_announce shape me state)
+      ((to : ActorName) (lo hi : ℕ) (pairs : List Pair) → M (message (Process me) to (MPromises lo hi pairs))) → EachSent M
+      (on_announce shape me state)
   unfolding announced
   on_announce_sends shape state h =
       let next : ProcessState = record { clock = state.clock; told = state.clock; attached = state.attached; sheets = state.sheets } in

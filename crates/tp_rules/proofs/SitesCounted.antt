@@ -41,7 +41,8 @@ record Without (x : Site) (sites : List Site) : Type 0 where
 without : (x : Site) (sites : List Site) → 0 < often x sites → Without x sites
 without x [] some = absurd (omega (arith, often_none x))
 without x (y ∷ ys) some = elim (cases_Bool (same_site y x)) [
-  | inl t ↦ record { rest = ys; shorter = refl; same = λ s. subst (λ (z : Site). often s (y ∷ ys) ≡ one_if (same_site z s) + often s ys) (same_site_is y x t) (often_more s y ys) }
+  | inl t ↦
+      record { rest = ys; shorter = refl; same = λ s. subst (λ (z : Site). often s (y ∷ ys) ≡ one_if (same_site z s) + often s ys) (same_site_is y x t) (often_more s y ys) }
   | inr f ↦
       let none : one_if (same_site y x) ≡ 0 = ap one_if f in
       let deeper = without x ys (omega (arith, often_more x y ys)) in

@@ -1,11 +1,11 @@
 -- How many processes have a clock above what they told: an announcement takes one away, and only what changes a process adds
 -- to it. Used for the end of runs.
-use Rattle.std.proofs.Common.{◌≡◌, ℕ, zero, suc, ◌+◌, ◌<◌, ◌≤◌, inl, inr, Bool, true, false, List, [], ◌∷◌, Some, length, refl, sym, ap, subst, ◌∙◌, arith}
+use Rattle.std.proofs.Common.{◌≡◌, ℕ, ◌+◌, ◌<◌, ◌≤◌, Bool, true, false, List, [], ◌∷◌, Some, length, refl, sym, ap, subst, ◌∙◌, arith}
 use Rattle.std.specs.Prelude.{◌&&◌, nat_lt, nat_le}
-use Rattle.std.proofs.lemmas.Bool.{cond_both, cases_eq, le-ltb, leb-true, and_parts}
+use Rattle.std.proofs.lemmas.Bool.{cond_both, le-ltb, leb-true, and_parts}
 use Rattle.tp_base.specs.Lists.{IsIn}
 use Rattle.tp_base.specs.Names.{same_name}
-use Rattle.tp_base.proofs.Members.{in_left, in_right, map_in, flat_in}
+use Rattle.tp_base.proofs.Members.{map_in, flat_in}
 use Rattle.tp_base.specs.declared.names.ActorName.{ActorName}
 use Rattle.tp_base.specs.declared.names.ActorName.TheVariants.{Process}
 use Rattle.tp_base.specs.declared.names.Site.{Site}
@@ -25,19 +25,12 @@ use Rattle.tp_topology.specs.Counting.{up_to}
 use Rattle.tp_topology.specs.Shape.{Shape, IsShape}
 use Rattle.tp_wire.specs.declared.message.Body.{Body}
 use Rattle.tp_wire.specs.declared.message.Body.TheVariants.{MSubmit, MPropose, MPayload, MProposeAck, MBump, MConsensus, MConsensusAck, MCommit, MRec, MRecAck, MPromises, MCommitted, MStable, MResult}
-use Rattle.tp_rules.proofs.ActsMore.{acts_step, acts_here}
-use Rattle.tp_rules.proofs.HowMany.{length-up_to, flat_length, map_length}
+use Rattle.tp_rules.proofs.ActsMore.{acts_step, acts_then}
+use Rattle.tp_rules.proofs.UpTo.{length-up_to, map_length, flat_length, in_up_to}
 use Rattle.tp_rules.proofs.OwnSteps.{announce_may}
 use Rattle.tp_rules.proofs.Tallies.{fewer, one_fewer, filter_length}
 
 -- sites
-
-in_up_to : (n k : ℕ) → 1 ≤ k → k ≤ n → IsIn k (up_to n)
-in_up_to zero k low high = absurd (omega arith)
-in_up_to (suc n) k low high = elim (cases_eq k (suc n)) [
-  | inl same ↦ in_right (up_to n) (suc n ∷ []) k (inl same)
-  | inr apart ↦ in_left (up_to n) (suc n ∷ []) k (in_up_to n k low (omega arith))
-]
 
 pub site_listed : (script : Script) (s : Site) → is_site_of script.topology s ≡ true → IsIn s (sites_of script)
 site_listed script s e =
@@ -46,20 +39,26 @@ site_listed script s e =
     let parts = and_parts (is_between p script.topology.partitions) (is_between k script.topology.replicas) e in
     let ps = and_parts (nat_le 1 p) (nat_le p script.topology.partitions) parts.0 in
     let ks = and_parts (nat_le 1 k) (nat_le k script.topology.replicas) parts.1 in
-    let here : IsIn s (ranks_of script p) = map_in (site p) (up_to script.topology.replicas) k (in_up_to script.topology.replicas k (leb-true 1 k ks.0) (leb-true k script.topology.replicas ks.1)) in
-    flat_in (ranks_of script) (up_to script.topology.partitions) p s (in_up_to script.topology.partitions p (leb-true 1 p ps.0) (leb-true p script.topology.partitions ps.1)) here
+    let here : IsIn s (ranks_of script p) =
+    map_in (site p) (up_to script.topology.replicas) k
+    (in_up_to script.topology.replicas k (leb-true 1 k ks.0) (leb-true k script.topology.replicas ks.1)) in
+    flat_in (ranks_of script) (up_to script.topology.partitions) p s
+    (in_up_to script.topology.partitions p (leb-true 1 p ps.0) (leb-true p script.topology.partitions ps.1)) here
 
 sites_few : (script : Script) → IsShape script.topology → length (sites_of script) ≤ 28
 sites_few script good =
-    let ranks : (p : ℕ) → length (ranks_of script p) ≤ 7 = (λ p. omega (arith, map_length (site p) (up_to script.topology.replicas), length-up_to script.topology.replicas, good.few_replicas)) in
+    let ranks : (p : ℕ) → length (ranks_of script p) ≤ 7 =
+    (λ p. omega (arith, map_length (site p) (up_to script.topology.replicas), length-up_to script.topology.replicas, good.few_replicas)) in
     omega (arith, flat_length (ranks_of script) 7 (up_to script.topology.partitions) ranks, length-up_to script.topology.partitions, good.few_partitions)
 
 -- an entry adds 28 at most
-pub unannounced_rises : (script : Script) → IsShape script.topology → (older : List Entry) (e : Entry) → unannounced script (e ∷ older) ≤ unannounced script older + 599
+pub unannounced_rises : (script : Script) → IsShape script.topology → (older : List Entry) (e : Entry) →
+    unannounced script (e ∷ older) ≤ unannounced script older + 599
 unannounced_rises script good older e = omega (arith, filter_length (has_untold script (e ∷ older)) (sites_of script), sites_few script good)
 
 -- a message of a kind that no process has a rule for
-changes_nothing : (s : Setting) (me : Site) (from : ActorName) (body : Body) (state : process.ProcessState) → 11 < place_of body → process.on_body s me from body state ≡ (state, [])
+changes_nothing : (s : Setting) (me : Site) (from : ActorName) (body : Body) (state : process.ProcessState) → 11 < place_of body →
+    process.on_body s me from body state ≡ (state, [])
 changes_nothing s me from (MPromises lo hi pairs) state h = refl
 changes_nothing s me from (MStable id) state h = refl
 changes_nothing s me from (MResult id q answers) state h = refl
@@ -84,17 +83,20 @@ abbrev untold : process.ProcessState → Bool
 untold state = nat_lt state.told state.clock
 
 -- what was told stays told
-act_adds_none : (s : Setting) (me : Site) (act : Act) (state : process.ProcessState) → AddsNone act → untold (process.react s me act state).0 ≡ true → untold state ≡ true
+act_adds_none : (s : Setting) (me : Site) (act : Act) (state : process.ProcessState) → AddsNone act → untold (process.react s me act state).0 ≡ true →
+    untold state ≡ true
 act_adds_none s me (Took m) state h e =
     cond_both (same_name m.to (Process me) && is_name_of s.shape m.from && is_body_at s.shape me.partition.0 m.body)
-    (process.with_room state (process.on_body s me m.from m.body state)) (state, []) (λ (moved : process.Moved). untold moved.0 ≡ true → untold state ≡ true)
+    (process.with_room state (process.on_body s me m.from m.body state)) (state, [])
+    (λ (moved : process.Moved). untold moved.0 ≡ true → untold state ≡ true)
     (λ t. cond_both (nat_lt (process.on_body s me m.from m.body state).0.clock process.LIMIT) (process.on_body s me m.from m.body state) (state, [])
     (λ (moved : process.Moved). untold moved.0 ≡ true → untold state ≡ true)
     (λ room f. subst (λ (moved : process.Moved). untold moved.0 ≡ true) (changes_nothing s me m.from m.body state h) f) (λ room f. f))
     (λ t f. f) e
 act_adds_none s me (Did Announce) state h e =
     let next : process.ProcessState = record { clock = state.clock; told = state.clock; attached = state.attached; sheets = state.sheets } in
-    cond_both (nat_lt state.told state.clock) (next, process.announced s.shape me state) (state, []) (λ (moved : process.Moved). untold moved.0 ≡ true → untold state ≡ true)
+    cond_both (nat_lt state.told state.clock) (next, process.announced s.shape me state) (state, [])
+    (λ (moved : process.Moved). untold moved.0 ≡ true → untold state ≡ true)
     (λ t f. t) (λ t f. f) e
 act_adds_none s me (Did (Submit n)) state h e = e
 act_adds_none s me (Did (Recover id)) state h e = e
@@ -106,13 +108,15 @@ untold_before : (script : Script) (older : List Entry) (e : Entry) (s : Site) �
     has_untold script (e ∷ older) s ≡ true → has_untold script older s ≡ true
 untold_before script older e s h =
     let setting = ring_setting script.topology in
-    acts_step (λ (list : List Act). untold (process.state_after setting s list) ≡ true → has_untold script older s ≡ true) older e (Process s) (λ t. t)
+    acts_step (λ (list : List Act). untold (process.state_after setting s list) ≡ true → has_untold script older s ≡ true) older e (Process s)
+    (λ t. t)
     (λ act same is. act_adds_none setting s act (process.state_after setting s (acts older (Process s))) (h act is))
 
 -- an entry whose act adds none
 pub unannounced_stays : (script : Script) (older : List Entry) (e : Entry) → ((act : Act) → act_of older e.event ≡ Some act → AddsNone act) →
     unannounced script (e ∷ older) ≤ unannounced script older
-unannounced_stays script older e h = fewer (has_untold script older) (has_untold script (e ∷ older)) (sites_of script) (λ s there. untold_before script older e s h)
+unannounced_stays script older e h =
+    fewer (has_untold script older) (has_untold script (e ∷ older)) (sites_of script) (λ s there. untold_before script older e s h)
 
 -- after an announcement nothing is untold
 announced_all : (shape : Shape) (me : Site) (state : process.ProcessState) → untold (process.on_announce shape me state).0 ≡ false
@@ -124,13 +128,16 @@ announced_all shape me state =
 some_act : {a b : Act} → Some a ≡ Some b → a ≡ b
 some_act e = cc
 
-falls_at : (script : Script) (older : List Entry) (e : Entry) (s : Site) → e.actor ≡ Process s → is_site_of script.topology s ≡ true → e.event ≡ OfItself Announce →
+falls_at : (script : Script) (older : List Entry) (e : Entry) (s : Site) → e.actor ≡ Process s → is_site_of script.topology s ≡ true →
+    e.event ≡ OfItself Announce →
     has_untold script older s ≡ true → unannounced script (e ∷ older) < unannounced script older
 falls_at script older e s actor listed event before =
     let setting = ring_setting script.topology in
-    let list : acts (e ∷ older) (Process s) ≡ Did Announce ∷ acts older (Process s) = acts_here older e (Process s) (Did Announce) actor (ap (act_of older) event) in
+    let list : acts (e ∷ older) (Process s) ≡ Did Announce ∷ acts older (Process s) =
+    acts_then older e (Process s) (Did Announce) actor (ap (act_of older) event) in
     let told : has_untold script (e ∷ older) s ≡ false =
-    ap (λ (l : List Act). untold (process.state_after setting s l)) list ∙ announced_all script.topology s (process.state_after setting s (acts older (Process s))) in
+    ap (λ (l : List Act). untold (process.state_after setting s l)) list ∙ announced_all script.topology s
+    (process.state_after setting s (acts older (Process s))) in
     let none : (act : Act) → act_of older e.event ≡ Some act → AddsNone act =
     (λ act is. let same : Did Announce ≡ act = some_act (sym (ap (act_of older) event) ∙ is) in subst AddsNone same tt) in
     one_fewer (has_untold script older) (has_untold script (e ∷ older)) (sites_of script) s (λ x there. untold_before script older e x none)

@@ -58,7 +58,8 @@ none_new script older e k above =
 few_new : (script : Script) → IsAccepted script → (older : List Entry) (e : Entry) (k : ℕ) → length e.outputs ≤ 63 → news script older e k ≤ 599
 few_new script accepted older e k few =
     let kept = filter (is_of k) (new_of older e) in
-    let bound : total (map (deliveries_left script (e ∷ older)) kept) ≤ length kept * 9 = total_bound (deliveries_left script (e ∷ older)) kept 9 (λ p h. deliveries_few script accepted (e ∷ older) p) in
+    let bound : total (map (deliveries_left script (e ∷ older)) kept) ≤ length kept * 9 =
+    total_bound (deliveries_left script (e ∷ older)) kept 9 (λ p h. deliveries_few script accepted (e ∷ older) p) in
     let short : length kept ≤ length (new_of older e) = filter_length (is_of k) (new_of older e) in
     let same : length (new_of older e) ≡ length e.outputs = length-numbered (suc (length older)) 1 e.outputs in
     omega arith
@@ -69,12 +70,14 @@ pub undelivered_stays : (script : Script) (older : List Entry) (e : Entry) (k : 
 undelivered_stays script older e k above = omega (arith, apart script older e k, olds_fall script older e k, none_new script older e k above)
 
 -- and falls where one of its outputs has less deliveries left
-pub undelivered_falls : (script : Script) (older : List Entry) (e : Entry) (p : Parcel) → Each (λ m. place_of p.message.body < place_of m.body) e.outputs →
+pub undelivered_falls : (script : Script) (older : List Entry) (e : Entry) (p : Parcel) →
+    Each (λ m. place_of p.message.body < place_of m.body) e.outputs →
     IsIn p (sent older) → deliveries_left script (e ∷ older) p < deliveries_left script older p →
     undelivered script (e ∷ older) (place_of p.message.body) < undelivered script older (place_of p.message.body)
 undelivered_falls script older e p above h less =
     let k = place_of p.message.body in
-    let old : olds script older e k < undelivered script older k = less_total (deliveries_left script older) (deliveries_left script (e ∷ older)) (filter (is_of k) (sent older)) p
+    let old : olds script older e k < undelivered script older k =
+    less_total (deliveries_left script older) (deliveries_left script (e ∷ older)) (filter (is_of k) (sent older)) p
     (λ q there. deliveries_fall script older e q (filter_in (is_of k) (sent older) q there).0)
     (in_filter (is_of k) (sent older) p h (eq-eqb k k refl)) less in
     omega (arith, apart script older e k, none_new script older e k above)
@@ -82,4 +85,5 @@ undelivered_falls script older e p above h less =
 -- each kind rises by less than 600
 pub undelivered_rises : (script : Script) → IsAccepted script → (older : List Entry) (e : Entry) (k : ℕ) → length e.outputs ≤ 63 →
     undelivered script (e ∷ older) k ≤ undelivered script older k + 599
-undelivered_rises script accepted older e k few = omega (arith, apart script older e k, olds_fall script older e k, few_new script accepted older e k few)
+undelivered_rises script accepted older e k few =
+    omega (arith, apart script older e k, olds_fall script older e k, few_new script accepted older e k few)

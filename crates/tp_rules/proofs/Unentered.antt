@@ -100,7 +100,8 @@ one_entered : (s : Site) (e : Entry) (older : List Entry) →
 one_entered s e older = elim (cases_Bool (same_name e.actor (Process s))) [
   | inl t ↦
       let here : entries_of (e ∷ older) s ≡ e ∷ entries_of older s = filter_yes (λ (x : Entry). same_name x.actor (Process s)) e older t in
-      let moved : planned_at (e ∷ older) s ≡ length (filter (λ (x : Entry). is_planned x.event) (e ∷ entries_of older s)) = ap (λ (l : List Entry). length (filter (λ (x : Entry). is_planned x.event) l)) here in
+      let moved : planned_at (e ∷ older) s ≡ length (filter (λ (x : Entry). is_planned x.event) (e ∷ entries_of older s)) =
+      ap (λ (l : List Entry). length (filter (λ (x : Entry). is_planned x.event) l)) here in
       elim (cases_Bool (is_planned e.event)) [
         | inl p ↦
             let one : one_if (is_planned e.event && same_name e.actor (Process s)) ≡ 1 = ap one_if (and_from _ _ p t) in
@@ -111,17 +112,20 @@ one_entered s e older = elim (cases_Bool (same_name e.actor (Process s))) [
       ]
   | inr f ↦
       let here : entries_of (e ∷ older) s ≡ entries_of older s = filter_no (λ (x : Entry). same_name x.actor (Process s)) e older f in
-      let moved : planned_at (e ∷ older) s ≡ planned_at older s = ap (λ (l : List Entry). length (filter (λ (x : Entry). is_planned x.event) l)) here in
+      let moved : planned_at (e ∷ older) s ≡ planned_at older s =
+      ap (λ (l : List Entry). length (filter (λ (x : Entry). is_planned x.event) l)) here in
       let none : one_if (is_planned e.event && same_name e.actor (Process s)) ≡ 0 = ap one_if (and_right (is_planned e.event) _ f) in
       omega arith
 ]
 
 planned_often : (s : Site) (older : List Entry) → often s (filter_map planned_site older) ≡ planned_at older s
 planned_often s [] = often_none s
-planned_often s (e ∷ older) = omega (arith, one_planned s (is_planned e.event) e.actor (filter_map planned_site older), one_entered s e older, planned_often s older)
+planned_often s (e ∷ older) =
+    omega (arith, one_planned s (is_planned e.event) e.actor (filter_map planned_site older), one_entered s e older, planned_often s older)
 
 -- crashes and recoveries are of processes
-planned_actor : (script : Script) (older : List Entry) (actor : ActorName) (event : Event) → MayHappen script older actor event → is_planned event ≡ true →
+planned_actor : (script : Script) (older : List Entry) (actor : ActorName) (event : Event) → MayHappen script older actor event →
+    is_planned event ≡ true →
     (s : Site) × (actor ≡ Process s)
 planned_actor script older actor (Deliver entry place) may e = absurd cc
 planned_actor script older actor (Dropped entry place) may e = absurd cc
@@ -143,35 +147,42 @@ planned_one true (Executor x) sites h = let found = h refl in absurd (let wrong 
 planned_one true (Session x) sites h = let found = h refl in absurd (let wrong = found.1 in cc)
 planned_one false a sites h = omega arith
 
-planned_length : (script : Script) (older : List Entry) → IsHistory script older → length (filter_map planned_site older) ≡ length (filter (λ e. is_planned e.event) older)
+planned_length : (script : Script) (older : List Entry) → IsHistory script older →
+    length (filter_map planned_site older) ≡ length (filter (λ e. is_planned e.event) older)
 planned_length script [] h = refl
 planned_length script (e ∷ older) h =
     let rest = planned_length script older h.0 in
-    let one = planned_one (is_planned e.event) e.actor (filter_map planned_site older) (λ t. planned_actor script older e.actor e.event h.1.rules.may t) in
+    let one =
+    planned_one (is_planned e.event) e.actor (filter_map planned_site older) (λ t. planned_actor script older e.actor e.event h.1.rules.may t) in
     elim (cases_Bool (is_planned e.event)) [
       | inl t ↦ let is : one_if (is_planned e.event) ≡ 1 = ap one_if t in omega (arith, count_yes (λ (x : Entry). is_planned x.event) e older t)
       | inr f ↦ let isnt : one_if (is_planned e.event) ≡ 0 = ap one_if f in omega (arith, count_no (λ (x : Entry). is_planned x.event) e older f)
     ]
 
 -- a line is due where not all of the site's are entered
-due_less : (script : Script) (older : List Entry) (s : Site) (inner : Inner) → due script older s ≡ Some inner → planned_at older s < length (plan_of script s)
+due_less : (script : Script) (older : List Entry) (s : Site) (inner : Inner) → due script older s ≡ Some inner →
+    planned_at older s < length (plan_of script s)
 unfolding due
 due_less script older s inner e = of_line (next_line script older s) refl e
   where
-    of_line : (o : Option Planned) → next_line script older s ≡ o → if_due (length (entries_of older s)) o ≡ Some inner → planned_at older s < length (plan_of script s)
+    of_line : (o : Option Planned) → next_line script older s ≡ o → if_due (length (entries_of older s)) o ≡ Some inner →
+        planned_at older s < length (plan_of script s)
     of_line None is f = absurd cc
     of_line (Some line) is f = slice_get_within (plan_of script s) (planned_at older s) line is
 
 -- the entry of a plan line is due
-planned_due : (script : Script) (older : List Entry) (s : Site) (o : Option Inner) (event : Event) → due script older s ≡ o → FollowsLine o event → is_planned event ≡ true →
+planned_due : (script : Script) (older : List Entry) (s : Site) (o : Option Inner) (event : Event) → due script older s ≡ o → FollowsLine o event →
+    is_planned event ≡ true →
     planned_at older s < length (plan_of script s)
 planned_due script older s None event is follows e = absurd cc
 planned_due script older s (Some inner) event is follows e = due_less script older s inner is
 
-pub entry_less : (script : Script) (older : List Entry) (e : Entry) (s : Site) → IsLegal script older e → e.actor ≡ Process s → is_planned e.event ≡ true →
+pub entry_less : (script : Script) (older : List Entry) (e : Entry) (s : Site) → IsLegal script older e → e.actor ≡ Process s →
+    is_planned e.event ≡ true →
     planned_at older s < length (plan_of script s)
 entry_less script older e s legal actor planned =
-    planned_due script older s (due script older s) e.event refl (subst (λ (a : ActorName). FollowsLine (due_of script older a) e.event) actor legal.plan.line) planned
+    planned_due script older s (due script older s) e.event refl
+    (subst (λ (a : ActorName). FollowsLine (due_of script older a) e.event) actor legal.plan.line) planned
 
 planned_within : (script : Script) (older : List Entry) → IsHistory script older → (s : Site) → planned_at older s ≤ length (plan_of script s)
 planned_within script [] h s = omega arith
@@ -186,7 +197,8 @@ planned_within script (e ∷ older) h s = elim (cases_Bool (is_planned e.event &
 ]
 
 -- the entry of a plan line takes one away
-pub unentered_falls : (script : Script) (older : List Entry) (e : Entry) → IsHistory script older → IsLegal script older e → is_planned e.event ≡ true →
+pub unentered_falls : (script : Script) (older : List Entry) (e : Entry) → IsHistory script older → IsLegal script older e →
+    is_planned e.event ≡ true →
     unentered script (e ∷ older) < unentered script older
 unentered_falls script older e h legal planned =
     let actor = planned_actor script older e.actor e.event legal.rules.may planned in

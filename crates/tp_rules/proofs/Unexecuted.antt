@@ -25,7 +25,7 @@ use Rattle.tp_script.specs.declared.script.Script.{Script}
 use Rattle.tp_topology.specs.Shape.{Shape}
 use Rattle.tp_wire.specs.declared.message.Body.{Body}
 use Rattle.tp_wire.specs.declared.message.Body.TheVariants.{MSubmit, MPropose, MPayload, MProposeAck, MBump, MConsensus, MConsensusAck, MCommit, MRec, MRecAck, MPromises, MCommitted, MStable, MResult}
-use Rattle.tp_rules.proofs.ActsMore.{acts_step, acts_here}
+use Rattle.tp_rules.proofs.ActsMore.{acts_step, acts_then}
 use Rattle.tp_rules.proofs.OwnSteps.{execute_may}
 use Rattle.tp_rules.proofs.Provenance.{IsOf, committed_provenance}
 use Rattle.tp_rules.proofs.Tallies.{fewer, one_fewer, filter_in, lower_total, less_total}
@@ -43,13 +43,15 @@ pub record Remembers (before after : executor.ExecutorState) : Type 0 where
 remembers_itself : (state : executor.ExecutorState) → Remembers state state
 remembers_itself state = record { declared = λ id h. h; executed = λ id h. h }
 
-row_remembers : (me : Site) (from : ActorName) (body : Body) (state : executor.ExecutorState) → Remembers state (executor.on_body me from body state).0
+row_remembers : (me : Site) (from : ActorName) (body : Body) (state : executor.ExecutorState) →
+    Remembers state (executor.on_body me from body state).0
 row_remembers me from (MPromises lo hi pairs) state =
     let next : executor.ExecutorState = record state { told = record { rank = rank_of from; lo = lo; hi = hi; attached = pairs } ∷ state.told } in
     cond_both (partition_of from == me.partition.0) (next, []) (state, []) (λ (moved : executor.Moved). Remembers state moved.0)
     (λ e. record { declared = λ id h. h; executed = λ id h. h }) (λ e. remembers_itself state)
 row_remembers me from (MCommitted c t) state =
-    let next : executor.ExecutorState = record state { committed = record { key = record { stamp = record { 0 = t.0 }; id = c.id }; command = c } ∷ state.committed } in
+    let next : executor.ExecutorState =
+    record state { committed = record { key = record { stamp = record { 0 = t.0 }; id = c.id }; command = c } ∷ state.committed } in
     cond_both (has same_id c.id (executor.committed_ids state)) (state, []) (next, []) (λ (moved : executor.Moved). Remembers state moved.0)
     (λ e. remembers_itself state) (λ e. record { declared = λ id h. h; executed = λ id h. h })
 row_remembers me from (MSubmit c) state = remembers_itself state
@@ -65,9 +67,11 @@ row_remembers me from (MRecAck id t made a b) state = remembers_itself state
 row_remembers me from (MStable id) state = remembers_itself state
 row_remembers me from (MResult id q answers) state = remembers_itself state
 
-execution_remembers : (shape : Shape) (me : Site) (o : Option executor.Committed) (state : executor.ExecutorState) → Remembers state (executor.execute_least shape me o state).0
+execution_remembers : (shape : Shape) (me : Site) (o : Option executor.Committed) (state : executor.ExecutorState) →
+    Remembers state (executor.execute_least shape me o state).0
 execution_remembers shape me None state = remembers_itself state
-execution_remembers shape me (Some c) state = record { declared = λ id h. h; executed = λ id h. or_right (same_id id c.command.id) (has same_id id state.executed) h }
+execution_remembers shape me (Some c) state =
+    record { declared = λ id h. h; executed = λ id h. or_right (same_id id c.command.id) (has same_id id state.executed) h }
 
 act_remembers : (shape : Shape) (me : Site) (act : Act) (state : executor.ExecutorState) → Remembers state (executor.react shape me act state).0
 act_remembers shape me (Took m) state =
@@ -85,9 +89,11 @@ act_remembers shape me (Did Crash) state = remembers_itself state
 abbrev pub executor_of : Script → List Entry → Site → executor.ExecutorState
 executor_of script older s = executor.state_after script.topology s (acts older (Executor s))
 
-pub executor_remembers : (script : Script) (older : List Entry) (e : Entry) (s : Site) → Remembers (executor_of script older s) (executor_of script (e ∷ older) s)
+pub executor_remembers : (script : Script) (older : List Entry) (e : Entry) (s : Site) →
+    Remembers (executor_of script older s) (executor_of script (e ∷ older) s)
 executor_remembers script older e s =
-    acts_step (λ (list : List Act). Remembers (executor_of script older s) (executor.state_after script.topology s list)) older e (Executor s) (remembers_itself (executor_of script older s))
+    acts_step (λ (list : List Act). Remembers (executor_of script older s) (executor.state_after script.topology s list)) older e (Executor s)
+    (remembers_itself (executor_of script older s))
     (λ act same is. act_remembers script.topology s act (executor_of script older s))
 
 missing_falls : (script : Script) (before after : List CommandId) → Grows before after → missing_at script after ≤ missing_at script before
@@ -97,12 +103,14 @@ missing_falls script before after h = fewer (λ c. not (has same_id c.id before)
 
 pub undeclared_stays : (script : Script) (older : List Entry) (e : Entry) → undeclared script (e ∷ older) ≤ undeclared script older
 undeclared_stays script older e =
-    lower_total (λ s. missing_at script (executor_of script older s).declared) (λ s. missing_at script (executor_of script (e ∷ older) s).declared) (sites_of script)
+    lower_total (λ s. missing_at script (executor_of script older s).declared) (λ s. missing_at script (executor_of script (e ∷ older) s).declared)
+    (sites_of script)
     (λ s there. missing_falls script (executor_of script older s).declared (executor_of script (e ∷ older) s).declared (executor_remembers script older e s).declared)
 
 pub unexecuted_stays : (script : Script) (older : List Entry) (e : Entry) → unexecuted script (e ∷ older) ≤ unexecuted script older
 unexecuted_stays script older e =
-    lower_total (λ s. missing_at script (executor_of script older s).executed) (λ s. missing_at script (executor_of script (e ∷ older) s).executed) (sites_of script)
+    lower_total (λ s. missing_at script (executor_of script older s).executed) (λ s. missing_at script (executor_of script (e ∷ older) s).executed)
+    (sites_of script)
     (λ s there. missing_falls script (executor_of script older s).executed (executor_of script (e ∷ older) s).executed (executor_remembers script older e s).executed)
 
 -- the least is one of them
@@ -122,14 +130,16 @@ least_in (x ∷ xs) c e =
       | inr later ↦ inr (least_in xs c (later ∙ ap (λ (y : executor.Committed). Some y) same))
     ]
 
-falls_by : (script : Script) (older : List Entry) (e : Entry) (s : Site) (c : executor.Committed) (id : CommandId) → is_site_of script.topology s ≡ true →
+falls_by : (script : Script) (older : List Entry) (e : Entry) (s : Site) (c : executor.Committed) (id : CommandId) →
+    is_site_of script.topology s ≡ true →
     e.actor ≡ Executor s → e.event ≡ OfItself (Execute id) → executor.least (executor.waiting (executor_of script older s)) ≡ Some c →
     IsOf script c.command → c.key.id ≡ c.command.id → has same_id c.key.id (executor_of script older s).executed ≡ false →
     unexecuted script (e ∷ older) < unexecuted script older
 falls_by script older e s c id listed actor event least of_script own waits =
     let before = (executor_of script older s).executed in
     let after = (executor_of script (e ∷ older) s).executed in
-    let list : acts (e ∷ older) (Executor s) ≡ Did (Execute id) ∷ acts older (Executor s) = acts_here older e (Executor s) (Did (Execute id)) actor (ap (act_of older) event) in
+    let list : acts (e ∷ older) (Executor s) ≡ Did (Execute id) ∷ acts older (Executor s) =
+    acts_then older e (Executor s) (Did (Execute id)) actor (ap (act_of older) event) in
     let state : after ≡ c.command.id ∷ before =
     ap (λ (l : List Act). (executor.state_after script.topology s l).executed) list
     ∙ ap (λ (o : Option executor.Committed). (executor.execute_least script.topology s o (executor_of script older s)).0.executed) least in
@@ -142,18 +152,25 @@ falls_by script older e s c id listed actor event least of_script own waits =
     (λ d is free. not_from_false (has same_id d.id before) (false_from_ne_true (has same_id d.id before)
     (λ t. let wrong : has same_id d.id after ≡ true = grows d.id t in let right : has same_id d.id after ≡ false = not-true (has same_id d.id after) free in absurd cc)))
     of_script (not_from_false (has same_id c.command.id before) absent) (not_from_true (has same_id c.command.id after) there) in
-    less_total (λ x. missing_at script (executor_of script older x).executed) (λ x. missing_at script (executor_of script (e ∷ older) x).executed) (sites_of script) s
+    less_total (λ x. missing_at script (executor_of script older x).executed) (λ x. missing_at script (executor_of script (e ∷ older) x).executed)
+    (sites_of script) s
     (λ x is. missing_falls script (executor_of script older x).executed (executor_of script (e ∷ older) x).executed (executor_remembers script older e x).executed)
     (site_listed script s listed) here
 
 -- an execution takes one away
-pub unexecuted_falls : (script : Script) (older : List Entry) (e : Entry) (id : CommandId) → IsFreeHistory script older → FollowsRules script older e →
+pub unexecuted_falls : (script : Script) (older : List Entry) (e : Entry) (id : CommandId) → IsFreeHistory script older →
+    FollowsRules script older e →
     e.event ≡ OfItself (Execute id) → unexecuted script (e ∷ older) < unexecuted script older
 unexecuted_falls script older e id history follows event =
     let parts = execute_may script older e.actor id (subst (MayHappen script older e.actor) event follows.may) in
     let s = parts.0 in
     let c = parts.2 in
     let state = executor_of script older s in
-    let waits = filter_in (λ (d : executor.Committed). not (has same_id d.key.id state.executed)) state.committed c (least_in (executor.waiting state) c parts.3) in
-    let own = each_in (λ (d : executor.Committed). IsOf script d.command × (d.key.id ≡ d.command.id)) state.committed c (committed_provenance script older history s) waits.0 in
-    falls_by script older e s c id (sym (ap (is_known script) parts.1) ∙ follows.known) parts.1 event parts.3 own.0 own.1 (not-true (has same_id c.key.id state.executed) waits.1)
+    let waits =
+    filter_in (λ (d : executor.Committed). not (has same_id d.key.id state.executed)) state.committed c
+    (least_in (executor.waiting state) c parts.3) in
+    let own =
+    each_in (λ (d : executor.Committed). IsOf script d.command × (d.key.id ≡ d.command.id)) state.committed c
+    (committed_provenance script older history s) waits.0 in
+    falls_by script older e s c id (sym (ap (is_known script) parts.1) ∙ follows.known) parts.1 event parts.3 own.0 own.1
+    (not-true (has same_id c.key.id state.executed) waits.1)

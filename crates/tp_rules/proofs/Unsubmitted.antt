@@ -1,8 +1,8 @@
 -- How many commands aren't submitted: an entry never adds to it, and a submission takes one away. Used for the end of runs.
-use Rattle.std.proofs.Common.{◌≡◌, ℕ, zero, suc, ◌+◌, ◌<◌, ◌≤◌, inl, inr, true, false, List, [], ◌∷◌, ◌++◌, Some, length, map, refl, sym, ap, subst, ◌∙◌, arith}
+use Rattle.std.proofs.Common.{◌≡◌, ℕ, suc, ◌+◌, ◌<◌, ◌≤◌, inl, inr, true, false, List, [], ◌∷◌, Some, length, map, refl, sym, ap, subst, ◌∙◌, arith}
 use Rattle.std.specs.Prelude.{◌==◌, ◌&&◌, not, slice_get}
 use Rattle.std.specs.List.{list_any}
-use Rattle.std.proofs.lemmas.Bool.{cond_both, cases_lt, eq-eqb, eqb-true, and_parts, and_from, or_left, or_cases, or_parts, not-true, not_from_true, not_from_false, false_from_ne_true}
+use Rattle.std.proofs.lemmas.Bool.{cond_both, eq-eqb, eqb-true, and_parts, and_from, or_left, or_cases, or_parts, not-true, not_from_true, not_from_false, false_from_ne_true}
 use Rattle.tp_base.specs.Lists.{IsIn}
 use Rattle.tp_base.specs.Names.{same_name}
 use Rattle.tp_base.proofs.Members.{in_get}
@@ -32,10 +32,9 @@ use Rattle.tp_topology.specs.Shape.{Shape}
 use Rattle.tp_wire.specs.declared.message.Body.{Body}
 use Rattle.tp_wire.specs.declared.message.Body.TheVariants.{MSubmit, MPropose, MPayload, MProposeAck, MBump, MConsensus, MConsensusAck, MCommit, MRec, MRecAck, MPromises, MCommitted, MStable, MResult}
 use Rattle.tp_wire.specs.declared.message.Message.{Message}
-use Rattle.tp_rules.proofs.ActsMore.{acts_step, acts_here, delivered_act}
-use Rattle.tp_rules.proofs.HowMany.{length-up_to}
+use Rattle.tp_rules.proofs.ActsMore.{acts_step, acts_then, delivered_act}
+use Rattle.tp_rules.proofs.UpTo.{get_there, get_map, get_up_to}
 use Rattle.tp_rules.proofs.OwnSteps.{session_may, submit_may}
-use Rattle.tp_base.proofs.Ends.{slice_get_left, slice_get_push}
 use Rattle.tp_rules.proofs.Tallies.{fewer, one_fewer, filter_in}
 
 pub unsubmitted_stays : (script : Script) (older : List Entry) (e : Entry) → unsubmitted script (e ∷ older) ≤ unsubmitted script older
@@ -48,8 +47,10 @@ unsubmitted_stays script older e =
 abbrev pub submitted_by : Script → List Entry → SessionId → ℕ
 submitted_by script older s = (session.state_after script.topology (client_of script s) (acts older (Session s))).submitted
 
-row_keeps_submitted : (shape : Shape) (client : Client) (body : Body) (state : session.SessionState) → (session.on_body shape client body state).0.submitted ≡ state.submitted
-row_keeps_submitted shape client (MResult id q answers) state = cond_both _ _ _ (λ (moved : session.Moved). moved.0.submitted ≡ state.submitted) (λ e. refl) (λ e. refl)
+row_keeps_submitted : (shape : Shape) (client : Client) (body : Body) (state : session.SessionState) →
+    (session.on_body shape client body state).0.submitted ≡ state.submitted
+row_keeps_submitted shape client (MResult id q answers) state =
+    cond_both _ _ _ (λ (moved : session.Moved). moved.0.submitted ≡ state.submitted) (λ e. refl) (λ e. refl)
 row_keeps_submitted shape client (MSubmit c) state = refl
 row_keeps_submitted shape client (MPropose c floor) state = refl
 row_keeps_submitted shape client (MPayload c) state = refl
@@ -64,7 +65,8 @@ row_keeps_submitted shape client (MPromises lo hi pairs) state = refl
 row_keeps_submitted shape client (MCommitted c t) state = refl
 row_keeps_submitted shape client (MStable id) state = refl
 
-message_keeps_submitted : (shape : Shape) (client : Client) (m : Message) (state : session.SessionState) → (session.react shape client (Took m) state).0.submitted ≡ state.submitted
+message_keeps_submitted : (shape : Shape) (client : Client) (m : Message) (state : session.SessionState) →
+    (session.react shape client (Took m) state).0.submitted ≡ state.submitted
 message_keeps_submitted shape client m state =
     cond_both (same_name m.to (Session client.session) && is_name_of shape m.from && is_body_at shape 0 m.body)
     (session.on_body shape client m.body state) (state, []) (λ (moved : session.Moved). moved.0.submitted ≡ state.submitted)
@@ -74,7 +76,8 @@ message_keeps_submitted shape client m state =
 abbrev submitted_then : Script → List Entry → SessionId → Act → ℕ
 submitted_then script older s act = (session.state_after script.topology (client_of script s) (act ∷ acts older (Session s))).submitted
 
-by_step : (script : Script) (older : List Entry) (s : SessionId) (inner : Inner) → MayMake (identity_in script (Session s)) (acts older (Session s)) inner →
+by_step : (script : Script) (older : List Entry) (s : SessionId) (inner : Inner) →
+    MayMake (identity_in script (Session s)) (acts older (Session s)) inner →
     submitted_by script older s ≤ submitted_then script older s (Did inner)
 by_step script older s (Submit n) may =
     let state = session.state_after script.topology (client_of script s) (acts older (Session s)) in
@@ -88,20 +91,25 @@ by_step script older s (Declare id) may = omega arith
 by_step script older s (Execute id) may = omega arith
 by_step script older s Crash may = omega arith
 
-by_event : (script : Script) (older : List Entry) (s : SessionId) (event : Event) (act : Act) → MayHappen script older (Session s) event → act_of older event ≡ Some act →
+by_event : (script : Script) (older : List Entry) (s : SessionId) (event : Event) (act : Act) → MayHappen script older (Session s) event →
+    act_of older event ≡ Some act →
     submitted_by script older s ≤ submitted_then script older s act
 by_event script older s (Deliver entry place) act may is =
     let found = delivered_act older entry place act is in
     let state = session.state_after script.topology (client_of script s) (acts older (Session s)) in
-    let stays : (session.react script.topology (client_of script s) (Took found.0) state).0.submitted ≡ state.submitted = message_keeps_submitted script.topology (client_of script s) found.0 state in
+    let stays : (session.react script.topology (client_of script s) (Took found.0) state).0.submitted ≡ state.submitted =
+    message_keeps_submitted script.topology (client_of script s) found.0 state in
     subst (λ (a : Act). submitted_by script older s ≤ submitted_then script older s a) (sym found.2) (omega arith)
 by_event script older s (Dropped entry place) act may is = absurd cc
 by_event script older s (OfItself inner) act may is =
-    let same : Did inner ≡ act = cc in subst (λ (a : Act). submitted_by script older s ≤ submitted_then script older s a) same (by_step script older s inner may)
+    let same : Did inner ≡ act =
+    cc in subst (λ (a : Act). submitted_by script older s ≤ submitted_then script older s a) same (by_step script older s inner may)
 
-submitted_grows : (script : Script) (older : List Entry) (e : Entry) (s : SessionId) → FollowsRules script older e → submitted_by script older s ≤ submitted_by script (e ∷ older) s
+submitted_grows : (script : Script) (older : List Entry) (e : Entry) (s : SessionId) → FollowsRules script older e →
+    submitted_by script older s ≤ submitted_by script (e ∷ older) s
 submitted_grows script older e s follows =
-    acts_step (λ (list : List Act). submitted_by script older s ≤ (session.state_after script.topology (client_of script s) list).submitted) older e (Session s) (omega arith)
+    acts_step (λ (list : List Act). submitted_by script older s ≤ (session.state_after script.topology (client_of script s) list).submitted) older e
+    (Session s) (omega arith)
     (λ act same is. by_event script older s e.event act (subst (λ (a : ActorName). MayHappen script older a e.event) same follows.may) is)
 
 submit_event : (n : ℕ) (event : Event) → is_submit n event ≡ true → event ≡ OfItself (Submit n)
@@ -115,7 +123,8 @@ submit_event n (OfItself (Execute id)) e = absurd cc
 submit_event n (OfItself Crash) e = absurd cc
 
 -- the number of a submitted command is among those that its session has submitted
-pub submitted_covers : (script : Script) (older : List Entry) (id : CommandId) → IsFreeHistory script older → list_any (is_submission_of id) older ≡ true →
+pub submitted_covers : (script : Script) (older : List Entry) (id : CommandId) → IsFreeHistory script older →
+    list_any (is_submission_of id) older ≡ true →
     id.number ≤ submitted_by script older id.session
 submitted_covers script [] id h e = absurd cc
 submitted_covers script (x ∷ older) id h e = elim (or_cases (is_submission_of id x) (list_any (is_submission_of id) older) e) [
@@ -123,7 +132,7 @@ submitted_covers script (x ∷ older) id h e = elim (or_cases (is_submission_of 
       let parts = and_parts (same_name x.actor (Session id.session)) (is_submit id.number x.event) here in
       let event : x.event ≡ OfItself (Submit id.number) = submit_event id.number x.event parts.1 in
       let list : acts (x ∷ older) (Session id.session) ≡ Did (Submit id.number) ∷ acts older (Session id.session) =
-      acts_here older x (Session id.session) (Did (Submit id.number)) (same_name_is x.actor (Session id.session) parts.0) (ap (act_of older) event) in
+      acts_then older x (Session id.session) (Did (Submit id.number)) (same_name_is x.actor (Session id.session) parts.0) (ap (act_of older) event) in
       let count : submitted_by script (x ∷ older) id.session ≡ id.number =
       ap (λ (l : List Act). (session.state_after script.topology (client_of script id.session) l).submitted) list in
       omega arith
@@ -133,46 +142,30 @@ submitted_covers script (x ∷ older) id h e = elim (or_cases (is_submission_of 
 some_parts : {m n : ℕ} → Some m ≡ Some n → m ≡ n
 some_parts e = cc
 
-get_there : {X : Type 0} (xs : List X) (i : ℕ) → i < length xs → (x : X) × (slice_get xs i ≡ Some x)
-get_there [] i less = absurd (omega arith)
-get_there (x ∷ xs) zero less = (x, refl)
-get_there (x ∷ xs) (suc i) less = get_there xs i (omega arith)
-
-get_map : {X Y : Type 0} (f : X → Y) (xs : List X) (i : ℕ) (x : X) → slice_get xs i ≡ Some x → slice_get (map f xs) i ≡ Some (f x)
-get_map f [] i x e = absurd cc
-get_map f (y ∷ ys) zero x e = let same : y ≡ x = cc in ap (λ (z : _). Some (f z)) same
-get_map f (y ∷ ys) (suc i) x e = get_map f ys i x e
-
-get_up_to : (n i : ℕ) → i < n → slice_get (up_to n) i ≡ Some (suc i)
-get_up_to zero i less = absurd (omega arith)
-get_up_to (suc n) i less = elim (cases_lt i n) [
-  | inl before ↦ slice_get_left (up_to n) (suc n ∷ []) i (omega (arith, length-up_to n)) ∙ get_up_to n i before
-  | inr last ↦
-      let place : i ≡ length (up_to n) = omega (arith, length-up_to n) in
-      let value : n ≡ i = omega arith in
-      ap (slice_get (up_to n ++ suc n ∷ [])) place ∙ slice_get_push (up_to n) (suc n) ∙ ap (λ (k : ℕ). Some (suc k)) value
-]
-
 -- the commands of a session are numbered from 1
 pub command_numbered : (script : Script) → IsAccepted script → (s : SessionId) (k : ℕ) → k < length (commands_of script s) →
     (c : Command) × IsIn c script.commands × (c.id.session ≡ s) × (c.id.number ≡ suc k)
 command_numbered script accepted s k less = of_found (get_there (commands_of script s) k less)
   where
-    of_found : (c : Command) × (slice_get (commands_of script s) k ≡ Some c) → (c : Command) × IsIn c script.commands × (c.id.session ≡ s) × (c.id.number ≡ suc k)
+    of_found : (c : Command) × (slice_get (commands_of script s) k ≡ Some c) →
+        (c : Command) × IsIn c script.commands × (c.id.session ≡ s) × (c.id.number ≡ suc k)
     of_found (c, e) =
         let cs = commands_of script s in
-        let numbers : slice_get (map (λ (d : Command). d.id.number) cs) k ≡ slice_get (up_to (length cs)) k = ap (λ (l : List ℕ). slice_get l k) (accepted.numbered s.0) in
+        let numbers : slice_get (map (λ (d : Command). d.id.number) cs) k ≡ slice_get (up_to (length cs)) k =
+        ap (λ (l : List ℕ). slice_get l k) (accepted.numbered s.0) in
         let one : slice_get (map (λ (d : Command). d.id.number) cs) k ≡ Some c.id.number = get_map (λ (d : Command). d.id.number) cs k c e in
         let two : slice_get (up_to (length cs)) k ≡ Some (suc k) = get_up_to (length cs) k less in
         let member = filter_in (λ (d : Command). d.id.session.0 == s.0) script.commands c (in_get cs k c e) in
         (c, member.0, ap (λ (i : ℕ). let id : SessionId = record { 0 = i } in id) (eqb-true c.id.session.0 s.0 member.1), some_parts (sym one ∙ numbers ∙ two))
 
 falls_by : (script : Script) (older : List Entry) (e : Entry) (s : SessionId) (c : Command) (n : ℕ) → IsFreeHistory script older →
-    e.actor ≡ Session s → e.event ≡ OfItself (Submit n) → n ≡ submitted_by script older s + 1 → IsIn c script.commands → c.id.session ≡ s → c.id.number ≡ n →
+    e.actor ≡ Session s → e.event ≡ OfItself
+    (Submit n) → n ≡ submitted_by script older s + 1 → IsIn c script.commands → c.id.session ≡ s → c.id.number ≡ n →
     unsubmitted script (e ∷ older) < unsubmitted script older
 falls_by script older e s c n history actor event count member own number =
     let by : same_name e.actor (Session c.id.session) ≡ true =
-    ap (λ (a : ActorName). same_name a (Session c.id.session)) (actor ∙ ap (λ (x : SessionId). Session x) (sym own)) ∙ same_name_refl (Session c.id.session) in
+    ap (λ (a : ActorName). same_name a (Session c.id.session)) (actor ∙ ap (λ (x : SessionId). Session x) (sym own)) ∙ same_name_refl
+    (Session c.id.session) in
     let of_it : is_submit c.id.number e.event ≡ true = ap (is_submit c.id.number) event ∙ eq-eqb c.id.number n number in
     let submits : is_submission_of c.id e ≡ true = and_from (same_name e.actor (Session c.id.session)) (is_submit c.id.number e.event) by of_it in
     let same : submitted_by script older c.id.session ≡ submitted_by script older s = ap (submitted_by script older) own in
@@ -185,7 +178,8 @@ falls_by script older e s c n history actor event count member own number =
     (not_from_true (list_any (is_submission_of c.id) (e ∷ older)) (or_left (is_submission_of c.id e) (list_any (is_submission_of c.id) older) submits))
 
 -- a submission is of a command that was not submitted
-pub unsubmitted_falls : (script : Script) → IsAccepted script → (older : List Entry) (e : Entry) (n : ℕ) → IsFreeHistory script older → FollowsRules script older e →
+pub unsubmitted_falls : (script : Script) → IsAccepted script → (older : List Entry) (e : Entry) (n : ℕ) → IsFreeHistory script older →
+    FollowsRules script older e →
     e.event ≡ OfItself (Submit n) → unsubmitted script (e ∷ older) < unsubmitted script older
 unsubmitted_falls script accepted older e n history follows event =
     let parts = submit_may script older e.actor n (subst (MayHappen script older e.actor) event follows.may) in
