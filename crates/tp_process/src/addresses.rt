@@ -112,11 +112,7 @@ pub(crate) fn other_processes(
 }
 
 /// Adds the processes of a partition, but for that of this place.
-fn add_others(
-    names: &mut Names,
-    place: &Place,
-    partition: PartitionId,
-) -> Result<(), NoMemory>
+fn add_others(names: &mut Names, place: &Place, partition: PartitionId) -> Result<(), NoMemory>
     ensures { OnOk result (names.new ≡ names.old ++ filter (λ to. not (same_name to (ActorName.Process place.now.site))) (processes place.now.topology partition.0)) }
 {
     for rank in 1..place.topology.replicas() + 1 {

@@ -83,9 +83,7 @@ impl Process {
         }
         match &message.body {
             Body::MSubmit { command } => self.on_submit(command),
-            Body::MPropose { command, floor } => {
-                self.on_propose(message.from, command, *floor)
-            }
+            Body::MPropose { command, floor } => { self.on_propose(message.from, command, *floor) }
             Body::MPayload { command } => self.on_payload(command),
             Body::MProposeAck { id, stamp } => self.on_propose_ack(message.from, *id, *stamp),
             Body::MCommit {

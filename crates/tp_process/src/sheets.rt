@@ -39,11 +39,7 @@ pub(crate) fn command_at<'a>(
 }
 
 /// The command that is kept in a command's sheet, or else this one.
-pub(crate) fn command_or<'a>(
-    sheets: &'a Sheets,
-    place: &Place,
-    command: &'a Command,
-) -> &'a Command
+pub(crate) fn command_or<'a>(sheets: &'a Sheets, place: &Place, command: &'a Command) -> &'a Command
     ensures { result.now ≡ kept_or command.now (sheet_at place.now.topology place.now.site sheets.now command.now.id).sheet }
 {
     match command_at(sheets, place, command.id) {

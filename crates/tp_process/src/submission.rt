@@ -131,12 +131,7 @@ fn ask_for_proposals(
 }
 
 /// What the home tells another rank of a command that is submitted.
-fn asking(
-    place: &Place,
-    command: &Command,
-    stamp: Stamp,
-    rank: Rank,
-) -> Result<Body, NoMemory>
+fn asking(place: &Place, command: &Command, stamp: Stamp, rank: Rank) -> Result<Body, NoMemory>
     requires home { (1 ≤ command.now.home.0) × (command.now.home.0 ≤ place.now.topology.replicas) }
     requires rank { (1 ≤ rank.0) × (rank.0 ≤ place.now.topology.replicas) }
     ensures { IfOk result (λ body. body ≡ cond (in_ring place.now.topology command.now.home.0 rank.0) (Body.MPropose command.now stamp) (Body.MPayload command.now)) }

@@ -185,7 +185,10 @@ fn proposes_once(rt: HostRuntime) -> Result<(), Fail> {
     let topology = shape(&rt);
     let mut process_2 = Process::new(alloc, &topology, site(1, 2));
     let first = process_2.deliver(&proposal(2, command(alloc, &[0x61, 0x62])?, 3))?;
-    let told = [(process(1, 1), "acknowledge", 3), (process(2, 2), "bump", 3)];
+    let told = [
+        (process(1, 1), "acknowledge", 3),
+        (process(2, 2), "bump", 3),
+    ];
     check(&rt, &first, &told);
     let again = process_2.deliver(&proposal(2, command(alloc, &[0x61, 0x62])?, 3))?;
     check(&rt, &again, &[]);

@@ -54,11 +54,5 @@ fn session(alloc: Global, script: &Script, number: u8) -> Result<AnyActor, NoMem
         Some(home) => *home,
         None => Rank(1),
     };
-    Ok(AnyActor::Session(Session::new(
-        alloc,
-        id,
-        home,
-        &script.topology,
-        commands,
-    )))
+    Ok(AnyActor::Session(Session::new(alloc, id, home, &script.topology, commands)))
 }

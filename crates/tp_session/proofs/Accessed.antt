@@ -37,7 +37,7 @@ pub all_fails : (f g : ℕ → Bool) (n k : ℕ) → 1 ≤ k → k ≤ n → g k
 all_fails f g zero k low high passes fails = absurd (omega arith)
 all_fails f g (suc n) k low high passes fails =
     let more : all_so_far f g (suc n) ≡ (all_so_far f g n && list_all f (cond (g (suc n)) (suc n ∷ []) [])) =
-      ap (list_all f) (filter-append g (up_to n) (suc n ∷ [])) ∙ list_all-append f (filter g (up_to n)) (cond (g (suc n)) (suc n ∷ []) []) in
+    ap (list_all f) (filter-append g (up_to n) (suc n ∷ [])) ∙ list_all-append f (filter g (up_to n)) (cond (g (suc n)) (suc n ∷ []) []) in
     elim (cases_eq k (suc n)) [
       | inl e ↦
           let here : g (suc n) ≡ true = subst (λ (j : ℕ). g j ≡ true) e passes in

@@ -44,23 +44,23 @@ pub submitted : (s s' : Session) (n : ℕ) → identity s' ≡ identity s → n 
     → (state : SessionState) → IsState s state → IsState s' (on_submit s.topology (client s) n state).0
 submitted s s' n same next kept unanswered state st =
     let tables : (k : ℕ) → table s' k ≡ state.kept k = λ k.
-      ap (λ (shape : Shape). take shape.partitions (parts_at s'.kept.items k)) (same_topology s s' same)
-      ∙ ap (λ (items : List Table). take s.topology.partitions (parts_at items k)) kept
-      ∙ ap (take s.topology.partitions) (parts_at-push s.kept.items k)
-      ∙ st.kept k in
+    ap (λ (shape : Shape). take shape.partitions (parts_at s'.kept.items k)) (same_topology s s' same)
+    ∙ ap (λ (items : List Table). take s.topology.partitions (parts_at items k)) kept
+    ∙ ap (take s.topology.partitions) (parts_at-push s.kept.items k)
+    ∙ st.kept k in
     let at : n ≡ state.submitted + 1 = next ∙ ap (λ (m : ℕ). m + 1) st.submitted in
     record {
       submitted = ap (λ (items : List Table). length items) kept ∙ length_push s.kept.items (replicate 4 None) ∙ sym next;
       kept = tables;
       unanswered =
-        unanswered
-        ∙ ap (λ (parts : Table). cond (is_whole s.topology parts (nth s.commands n)) s.unanswered (s.unanswered + 1)) (tables n)
-        ∙ swapped (is_whole s.topology (state.kept n) (nth s.commands n)) s.unanswered
-        ∙ ap (λ (k : ℕ). cond (is_open s.topology state.kept s.commands k) (s.unanswered + 1) s.unanswered) at
-        ∙ ap (λ (u : ℕ). cond (is_open s.topology state.kept s.commands (state.submitted + 1)) (u + 1) u) st.unanswered
-        ∙ sym (count_more (is_open s.topology state.kept s.commands) state.submitted)
-        ∙ ap (count_up_to (is_open s.topology state.kept s.commands)) (sym at)
-        ∙ sym (open_same s s' (on_submit s.topology (client s) n state).0 same);
+          unanswered
+          ∙ ap (λ (parts : Table). cond (is_whole s.topology parts (nth s.commands n)) s.unanswered (s.unanswered + 1)) (tables n)
+          ∙ swapped (is_whole s.topology (state.kept n) (nth s.commands n)) s.unanswered
+          ∙ ap (λ (k : ℕ). cond (is_open s.topology state.kept s.commands k) (s.unanswered + 1) s.unanswered) at
+          ∙ ap (λ (u : ℕ). cond (is_open s.topology state.kept s.commands (state.submitted + 1)) (u + 1) u) st.unanswered
+          ∙ sym (count_more (is_open s.topology state.kept s.commands) state.submitted)
+          ∙ ap (count_up_to (is_open s.topology state.kept s.commands)) (sym at)
+          ∙ sym (open_same s s' (on_submit s.topology (client s) n state).0 same);
     }
 
 -- whether answers are awaited, by the session's fields and by the state
@@ -92,7 +92,7 @@ counts : (s : Session) (state : SessionState) (new : ℕ → Table) (n : ℕ) �
     → cond b (s.unanswered - 1) s.unanswered ≡ count_up_to (is_open s.topology new s.commands) state.submitted
 counts s state new n st some most was others true whole =
     let less : count_up_to (is_open s.topology state.kept s.commands) state.submitted ≡ count_up_to (is_open s.topology new s.commands) state.submitted + 1 =
-      count_less (is_open s.topology state.kept s.commands) (is_open s.topology new s.commands) state.submitted n some most was (not_from_true _ whole) others in
+    count_less (is_open s.topology state.kept s.commands) (is_open s.topology new s.commands) state.submitted n some most was (not_from_true _ whole) others in
     omega (arith, st.unanswered, less)
 counts s state new n st some most was others false part =
     st.unanswered ∙ count_same (is_open s.topology state.kept s.commands) (is_open s.topology new s.commands) state.submitted (λ k low high. elim (cases_eq k n) [
@@ -115,13 +115,13 @@ received s s' id q answers same low high passes kept unanswered state st =
     let few : n ≤ length s.kept.items = leb-true n (length s.kept.items) (and_parts (id.session.0 == s.id.0) (nat_le n (length s.kept.items)) within.0).1 in
     let new : ℕ → Table = λ k. cond (k == n) (with_nth (state.kept k) q (Some answers)) (state.kept k) in
     let moved : (k : ℕ) → table s' k ≡ take m (parts_at (set s.kept.items (n - 1) (with_part parts q answers)) k) = λ k.
-      ap (λ (shape : Shape). take shape.partitions (parts_at s'.kept.items k)) (same_topology s s' same)
-      ∙ ap (λ (items : List Table). take m (parts_at items k)) kept in
+    ap (λ (shape : Shape). take shape.partitions (parts_at s'.kept.items k)) (same_topology s s' same)
+    ∙ ap (λ (items : List Table). take m (parts_at items k)) kept in
     let here : table s' n ≡ with_nth (state.kept n) q (Some answers) =
-      moved n
-      ∙ ap (take m) (parts_at-set_same s.kept.items (with_part parts q answers) n some few)
-      ∙ with_part-take m q parts answers low high
-      ∙ ap (λ (old : Table). with_nth old q (Some answers)) (st.kept n) in
+    moved n
+    ∙ ap (take m) (parts_at-set_same s.kept.items (with_part parts q answers) n some few)
+    ∙ with_part-take m q parts answers low high
+    ∙ ap (λ (old : Table). with_nth old q (Some answers)) (st.kept n) in
     let tables : (k : ℕ) → table s' k ≡ new k = λ k. elim (cases_eq k n) [
       | inl e ↦ subst (λ (j : ℕ). table s' j ≡ new j) (sym e) (here ∙ sym (cond-true (n == n) (with_nth (state.kept n) q (Some answers)) (state.kept n) (eq-eqb n n refl)))
       | inr apart ↦
@@ -131,20 +131,20 @@ received s s' id q answers same low high passes kept unanswered state st =
           ∙ sym (cond-false (k == n) (with_nth (state.kept k) q (Some answers)) (state.kept k) (ne_eqb k n apart))
     ] in
     let others : (k : ℕ) → k ≢ n → is_open s.topology state.kept s.commands k ≡ is_open s.topology new s.commands k = λ k apart.
-      ap (λ (old : Table). not (is_whole s.topology old (nth s.commands k))) (sym (cond-false (k == n) (with_nth (state.kept k) q (Some answers)) (state.kept k) (ne_eqb k n apart))) in
+    ap (λ (old : Table). not (is_whole s.topology old (nth s.commands k))) (sym (cond-false (k == n) (with_nth (state.kept k) q (Some answers)) (state.kept k) (ne_eqb k n apart))) in
     let was : is_open s.topology state.kept s.commands n ≡ true =
-      not_from_false _ (ap (λ (old : Table). is_whole s.topology old (nth s.commands n)) (sym (st.kept n)) ∙ awaited_open s.topology q answers (table s n) (nth s.commands n) low high within.1) in
+    not_from_false _ (ap (λ (old : Table). is_whole s.topology old (nth s.commands n)) (sym (st.kept n)) ∙ awaited_open s.topology q answers (table s n) (nth s.commands n) low high within.1) in
     let to_state : is_whole s.topology (table s' n) (nth s.commands n) ≡ is_whole s.topology (new n) (nth s.commands n) = ap (λ (now : Table). is_whole s.topology now (nth s.commands n)) (tables n) in
     let most : n ≤ state.submitted = subst (λ (k : ℕ). n ≤ k) st.submitted few in
     let counted : (b : Bool) → is_whole s.topology (new n) (nth s.commands n) ≡ b → cond b (s.unanswered - 1) s.unanswered ≡ count_up_to (is_open s.topology new s.commands) state.submitted =
-      counts s state new n st some most was others in
+    counts s state new n st some most was others in
     let after : IsState s' (record { submitted = state.submitted; kept = new }) = record {
       submitted = ap (λ (items : List Table). length items) kept ∙ length-set s.kept.items (n - 1) (with_part parts q answers) ∙ st.submitted;
       kept = tables;
       unanswered =
-        unanswered
-        ∙ ap (λ (b : Bool). cond b (s.unanswered - 1) s.unanswered) to_state
-        ∙ counted (is_whole s.topology (new n) (nth s.commands n)) refl
-        ∙ sym (open_same s s' (record { submitted = state.submitted; kept = new }) same);
+          unanswered
+          ∙ ap (λ (b : Bool). cond b (s.unanswered - 1) s.unanswered) to_state
+          ∙ counted (is_whole s.topology (new n) (nth s.commands n)) refl
+          ∙ sym (open_same s s' (record { submitted = state.submitted; kept = new }) same);
     } in
     subst (λ (b : Bool). IsState s' (cond {A = Moved} b (record { submitted = state.submitted; kept = new }, []) (state, [])).0) (sym (sym (same_test s id q answers state st) ∙ passes)) after

@@ -5,6 +5,8 @@ ghost use Rattle.tp_rules.specs.Session.{SessionState, is_awaited, is_whole, on_
 ghost use Rattle.tp_rules.specs.Tables.{nth};
 ghost use Rattle.tp_wire.specs.Ranges.{IsInRange};
 
+use crate::answered::{is_awaited, is_site_of, is_whole, reply_of};
+use crate::submissions::submissions;
 use std::alloc::Global;
 use tp_base::{ActorName, CommandId, Duplicate, NoMemory, PartitionId, Rank, Sequence, SessionId};
 use tp_ops::{Answers, Command, Parts};
@@ -12,9 +14,6 @@ use tp_rules::{Actor, Inner, Outputs};
 use tp_script::Commands;
 use tp_topology::Topology;
 use tp_wire::{Body, Message};
-
-use crate::answered::{is_awaited, is_site_of, is_whole, reply_of};
-use crate::submissions::submissions;
 
 /// A client session, with its own commands in order. It submits its next command while fewer than
 /// its window of them are unanswered.
@@ -166,12 +165,7 @@ impl Session {
         }
     }
 
-    fn receive(
-        &mut self,
-        id: CommandId,
-        q: PartitionId,
-        answers: &Answers,
-    ) -> Result<(), NoMemory>
+    fn receive(&mut self, id: CommandId, q: PartitionId, answers: &Answers) -> Result<(), NoMemory>
         requires from { 1 ≤ q.0 }
         requires to { q.0 ≤ self.old.topology.partitions }
         requires few { q.0 ≤ 4 }

@@ -7,10 +7,10 @@ use Rattle.tp_process.proofs.submission.ask_for_proposals.Goals.{then-ne+in_ok-a
 pub loop-number-preserved : goal.loop-number-preserved
 loop-number-preserved c = elim c.if-ne.branch [
   | then-ne+in_ok-asking+in_ok-add w ↦
-    let added = rw (w.name.ensures, w.in_ok-asking.ensures) at w.in_ok-add.ensures.added in
-    passing-more _ _ _ _ _ _ c.loop-number.auto.number (sym c.ne.ensures ∙ w.if-ne.true) c.loop-number.invariant (w.outputs-is ∙ added)
+      let added = rw (w.name.ensures, w.in_ok-asking.ensures) at w.in_ok-add.ensures.added in
+      passing-more _ _ _ _ _ _ c.loop-number.auto.number (sym c.ne.ensures ∙ w.if-ne.true) c.loop-number.invariant (w.outputs-is ∙ added)
   | else-ne w ↦
-    passing-same _ _ _ _ _ _ c.loop-number.auto.number (sym c.ne.ensures ∙ w.if-ne.false) c.loop-number.invariant w.outputs-is
+      passing-same _ _ _ _ _ _ c.loop-number.auto.number (sym c.ne.ensures ∙ w.if-ne.false) c.loop-number.invariant w.outputs-is
 ]
 
 pub returns : goal.returns
