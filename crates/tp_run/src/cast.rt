@@ -1,10 +1,14 @@
+ghost use Rattle.std.specs.Prelude.{◌≡◌};
+ghost use Rattle.tp_base.specs.Limits.{IsFrom};
+
 use crate::any_actor::AnyActor;
-use std::alloc::{AllocError, Global};
-use tp_base::{CommandId, Duplicate, NoMemory, PartitionId, Rank, SessionId, Site};
+use std::alloc::Global;
+use tp_base::{Duplicate, NoMemory, PartitionId, Rank, SessionId, Site};
 use tp_executor::Executor;
 use tp_process::Process;
 use tp_script::{Commands, Script};
 use tp_session::Session;
+use tp_topology::Topology;
 
 /// The most sessions that a script has.
 const MOST_SESSIONS: usize = 16;
@@ -20,21 +24,50 @@ pub fn cast(alloc: Global, script: &Script) -> Result<Vec<AnyActor>, NoMemory> {
         actors.push(session(alloc, script, s)?)?;
     }
     for p in 1..script.topology.partitions() + 1 {
-        for k in 1..script.topology.replicas() + 1 {
-            let process = Process::new(alloc, &script.topology, site(p, k));
-            actors.push(AnyActor::Process(process))?;
-        }
+        add_processes(alloc, &script.topology, p, &mut actors)?;
     }
     for p in 1..script.topology.partitions() + 1 {
-        for k in 1..script.topology.replicas() + 1 {
-            let executor = Executor::new(alloc, &script.topology, site(p, k))?;
-            actors.push(AnyActor::Executor(executor))?;
-        }
+        add_executors(alloc, &script.topology, p, &mut actors)?;
     }
     Ok(actors)
 }
 
-fn site(partition: u8, rank: u8) -> Site {
+// The processes of a partition, ascending.
+fn add_processes(
+    alloc: Global,
+    topology: &Topology,
+    partition: u8,
+    actors: &mut Vec<AnyActor>,
+) -> Result<(), NoMemory>
+    requires { IsFrom 1 topology.now.partitions partition }
+{
+    for rank in 1..topology.replicas() + 1 {
+        let process = Process::new(alloc, topology, site(partition, rank));
+        actors.push(AnyActor::Process(process))?;
+    }
+    Ok(())
+}
+
+// The executors of a partition, ascending.
+fn add_executors(
+    alloc: Global,
+    topology: &Topology,
+    partition: u8,
+    actors: &mut Vec<AnyActor>,
+) -> Result<(), NoMemory>
+    requires { IsFrom 1 topology.now.partitions partition }
+{
+    for rank in 1..topology.replicas() + 1 {
+        let executor = Executor::new(alloc, topology, site(partition, rank))?;
+        actors.push(AnyActor::Executor(executor))?;
+    }
+    Ok(())
+}
+
+fn site(partition: u8, rank: u8) -> Site
+    ensures partition { result.partition.0 ≡ partition }
+    ensures rank { result.rank.0 ≡ rank }
+{
     Site {
         partition: PartitionId(partition),
         rank: Rank(rank),
