@@ -1,3 +1,5 @@
+ghost use Rattle.std.specs.Prelude.{None};
+
 use super::*;
 use std::alloc::{AllocError, Global};
 use std::test::Fail;
