@@ -10,7 +10,5 @@ mod place;
 mod process;
 mod sheets;
 mod submission;
-#[cfg(test)]
-mod tests;
 
 pub use process::Process;
