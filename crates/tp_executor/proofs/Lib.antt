@@ -1,0 +1,5 @@
+pub mod Accessed
+pub mod Bindings
+pub mod Fronts
+pub mod Lists
+pub mod Steps

@@ -1,1 +1,4 @@
+pub mod Known
+pub mod Fronts
+pub mod Bindings
 pub mod States

@@ -1,11 +1,16 @@
+ghost use Rattle.std.specs.Prelude.{◌≡◌, ◌≤◌, ◌==◌, ◌&&◌, ◌∷◌, ◌↔◌, [], not, false, IsTrue, IfOk, OnOk};
+ghost use Rattle.tp_ops.specs.Parts.{is_accessed};
+ghost use Rattle.tp_rules.specs.Acts.{ExecutorAt};
+ghost use Rattle.tp_rules.specs.Addresses.{is_command_at, is_site_of, message, others_accessed};
+ghost use Rattle.tp_rules.specs.Executor.{ExecutorState, on_committed, on_execute, on_message, on_promises};
+ghost use Rattle.tp_wire.specs.Ranges.{IsInRange};
+
 use crate::book::Book;
 use crate::queue::{Committed, Queue};
 use crate::store::Store;
 use crate::telling::Telling;
 use std::alloc::Global;
-use tp_base::{
-    ActorName, Duplicate, Key, NoMemory, Pairs, PartitionId, Rank, Sequence, Site, Stamp,
-};
+use tp_base::{ActorName, Duplicate, Key, NoMemory, Pairs, PartitionId, Sequence, Site, Stamp};
 use tp_ops::{Answers, Command, accesses};
 use tp_rules::{Actor, Inner, Outputs};
 use tp_topology::Topology;
@@ -24,7 +29,9 @@ pub struct Executor {
 }
 
 /// Whether a site is of the store's shape.
-fn is_site_of(topology: &Topology, site: Site) -> bool {
+fn is_site_of(topology: &Topology, site: Site) -> bool
+    ensures { result ≡ is_site_of topology.now site }
+{
     1 <= site.partition.0
         && site.partition.0 <= topology.partitions()
         && 1 <= site.rank.0
@@ -32,17 +39,30 @@ fn is_site_of(topology: &Topology, site: Site) -> bool {
 }
 
 /// Whether a command's home is a rank, and it accesses a partition.
-fn is_command_at(topology: &Topology, p: PartitionId, command: &Command) -> bool {
+fn is_command_at(topology: &Topology, p: PartitionId, command: &Command) -> bool
+    ensures { result ≡ is_command_at topology.now p.0 command.now }
+{
     1 <= command.home.0
         && command.home.0 <= topology.replicas()
         && accesses(command, topology.partitions(), p)
 }
 
+/// Whether a command accesses another partition.
+fn reaches(partitions: u8, command: &Command, p: PartitionId, q: PartitionId) -> bool
+    requires some { 1 ≤ partitions }
+    requires few { partitions ≤ 4 }
+    ensures { result ≡ (not (q.0 == p.0) && is_accessed partitions command.now q.0) }
+{
+    q != p && accesses(command, partitions, q)
+}
+
 /// Whether a command accesses no partition but one.
-fn is_alone(topology: &Topology, p: PartitionId, command: &Command) -> bool {
+fn is_alone(topology: &Topology, p: PartitionId, command: &Command) -> bool
+    ensures { IsTrue result ↔ (others_accessed topology.now command.now p.0 ≡ []) }
+{
     let partitions = topology.partitions();
-    for q in 1..partitions + 1 {
-        if PartitionId(q) != p && accesses(command, partitions, PartitionId(q)) {
+    for i in 0..partitions {
+        if reaches(partitions, command, p, PartitionId(i + 1)) {
             return false;
         }
     }
@@ -50,12 +70,14 @@ fn is_alone(topology: &Topology, p: PartitionId, command: &Command) -> bool {
 }
 
 /// The answers of a partition's operations, to the command's session.
-fn result(
+fn result_of(
     alloc: Global,
     site: Site,
     command: &Command,
     answers: Answers,
-) -> Result<Outputs, NoMemory> {
+) -> Result<Outputs, NoMemory>
+    ensures { IfOk result (λ outputs. outputs ≡ message (ActorName.Executor site) (ActorName.Session command.now.id.session) (Body.MResult command.now.id site.partition answers) ∷ []) }
+{
     let mut outputs = Sequence::new(alloc);
     outputs.add(Message {
         from: ActorName::Executor(site),
@@ -70,7 +92,14 @@ fn result(
 }
 
 impl Executor {
-    pub fn new(alloc: Global, topology: &Topology, site: Site) -> Result<Executor, NoMemory> {
+    ghost use Rattle.tp_executor.specs.States.{IsState, Stands, identity};
+
+    /// An executor that was told nothing.
+    pub fn new(alloc: Global, topology: &Topology, site: Site) -> Result<Executor, NoMemory>
+        ensures identity { IfOk result (λ e. identity e ≡ ExecutorAt topology.now site) }
+        ensures unspent { IfOk result (λ e. e.spent ≡ false) }
+        ensures stands { IfOk result (λ e. Stands e []) }
+    {
         Ok(Executor {
             alloc,
             topology: *topology,
@@ -82,7 +111,10 @@ impl Executor {
         })
     }
 
-    fn tell(&mut self, from: Site, lo: u64, hi: u64, pairs: &Pairs) -> Result<(), NoMemory> {
+    fn tell(&mut self, from: Site, lo: u64, hi: u64, pairs: &Pairs) -> Result<(), NoMemory>
+        ensures identity { identity self.new ≡ identity self.old }
+        ensures state { OnOk result ((state : ExecutorState) → IsState self.old state → IsState self.new (on_promises self.old.site (ActorName.Process from) lo hi pairs.now state).0) }
+    {
         if from.partition != self.site.partition {
             return Ok(());
         }
@@ -94,7 +126,10 @@ impl Executor {
         })
     }
 
-    fn commit(&mut self, command: &Command, stamp: Stamp) -> Result<(), NoMemory> {
+    fn commit(&mut self, command: &Command, stamp: Stamp) -> Result<(), NoMemory>
+        ensures identity { identity self.new ≡ identity self.old }
+        ensures state { OnOk result ((state : ExecutorState) → IsState self.old state → IsState self.new (on_committed command.now stamp.0 state).0) }
+    {
         if self.book.is_committed(command.id) {
             return Ok(());
         }
@@ -107,7 +142,10 @@ impl Executor {
         self.book.commit(key.id)
     }
 
-    fn take(&mut self, message: &Message) -> Result<(), NoMemory> {
+    fn take(&mut self, message: &Message) -> Result<(), NoMemory>
+        ensures identity { identity self.new ≡ identity self.old }
+        ensures state { OnOk result ((state : ExecutorState) → IsState self.old state → IsInRange message.now → IsState self.new (on_message self.old.topology self.old.site message.now state).0) }
+    {
         let ActorName::Process(from) = message.from else {
             return Ok(());
         };
@@ -127,7 +165,11 @@ impl Executor {
     }
 
     /// Executes the command with the least key of those that wait.
-    fn execute(&mut self) -> Result<Outputs, NoMemory> {
+    fn execute(&mut self) -> Result<Outputs, NoMemory>
+        ensures identity { identity self.new ≡ identity self.old }
+        ensures outputs { IfOk result (λ outputs. (state : ExecutorState) → IsState self.old state → outputs ≡ (on_execute self.old.topology self.old.site state).1) }
+        ensures state { OnOk result ((state : ExecutorState) → IsState self.old state → IsState self.new (on_execute self.old.topology self.old.site state).0) }
+    {
         let Some(next) = self.queue.least() else {
             return Ok(Sequence::new(self.alloc));
         };
@@ -138,14 +180,17 @@ impl Executor {
         let answers = self
             .store
             .run(self.alloc, ops, partitions, self.site.partition)?;
-        let outputs = result(self.alloc, self.site, command, answers)?;
+        let outputs = result_of(self.alloc, self.site, command, answers)?;
         self.queue.remove(id);
         Ok(outputs)
     }
 }
 
 impl Actor for Executor {
+    ghost use Rattle.std.specs.Prelude.{List, is_err};
     ghost use Rattle.tp_executor.specs.States.{Stands, identity};
+    ghost use Rattle.tp_rules.specs.Acts.{Act, Did, Took};
+    ghost use Rattle.tp_rules.specs.Rules.{MayMake, enabled, outputs_of};
 
     ghost identity_of = { identity };
 
@@ -161,14 +206,24 @@ impl Actor for Executor {
         self.spent
     }
 
-    fn deliver(&mut self, message: &Message) -> Result<Outputs, NoMemory> {
+    fn deliver(&mut self, message: &Message) -> Result<Outputs, NoMemory>
+        ensures identity { identity self.new ≡ identity self.old }
+        ensures spent { self.new.spent ≡ is_err result }
+        ensures outputs { IfOk result (λ outputs. (acts : List Act) → Stands self.old acts → IsInRange message.now → outputs ≡ outputs_of (identity self.old) acts (Took message.now)) }
+        ensures stands { OnOk result ((acts : List Act) → Stands self.old acts → IsInRange message.now → Stands self.new (Took message.now ∷ acts)) }
+    {
         let taken = self.take(message);
         self.spent = taken.is_err();
         taken?;
         Ok(Sequence::new(self.alloc))
     }
 
-    fn fire(&mut self, inner: Inner) -> Result<Outputs, NoMemory> {
+    fn fire(&mut self, inner: Inner) -> Result<Outputs, NoMemory>
+        ensures identity { identity self.new ≡ identity self.old }
+        ensures spent { self.old.spent ≡ false → self.new.spent ≡ is_err result }
+        ensures outputs { IfOk result (λ outputs. (acts : List Act) → Stands self.old acts → MayMake (identity self.old) acts inner → outputs ≡ outputs_of (identity self.old) acts (Did inner)) }
+        ensures stands { OnOk result ((acts : List Act) → Stands self.old acts → MayMake (identity self.old) acts inner → Stands self.new (Did inner ∷ acts)) }
+    {
         match inner {
             Inner::Execute(_) => {
                 let outputs = self.execute();
@@ -179,7 +234,9 @@ impl Actor for Executor {
         }
     }
 
-    fn next_inner(&self) -> Option<Inner> {
+    fn next_inner(&self) -> Option<Inner>
+        ensures { (acts : List Act) → Stands self.now acts → result ≡ enabled (identity self.now) acts }
+    {
         let next = self.queue.least()?;
         let stable = self.book.is_stable(&self.topology, next.key.stamp);
         if stable && is_alone(&self.topology, self.site.partition, &next.command) {

@@ -8,7 +8,5 @@ mod front;
 mod queue;
 mod store;
 mod telling;
-#[cfg(test)]
-mod tests;
 
 pub use executor::Executor;
