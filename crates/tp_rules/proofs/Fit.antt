@@ -1,12 +1,13 @@
--- Messages in the ranges of the wire format whose commands are the script's, and what of a script's shape they need.
--- Each message that a run sends is such a one.
-use Rattle.std.proofs.Common.{◌≡◌, ℕ, true, arith}
+-- Messages in the ranges of the wire format, to an actor of the script, whose commands are the script's; and what of a script's
+-- shape they need. Each message that a run sends is such a one.
+use Rattle.std.proofs.Common.{◌≡◌, ℕ, ◌≤◌, true, arith}
 use Rattle.std.proofs.lemmas.Bool.{and_parts, leb-true}
 use Rattle.std.specs.Prelude.{nat_le}
 use Rattle.tp_base.proofs.Each.{each_in, each_weaker}
 use Rattle.tp_base.specs.Limits.{IsFrom, IsSite}
 use Rattle.tp_base.specs.Lists.{Each, IsIn}
-use Rattle.tp_base.specs.declared.names.ActorName.TheVariants.{Process, Executor}
+use Rattle.tp_base.specs.declared.names.ActorName.{ActorName}
+use Rattle.tp_base.specs.declared.names.ActorName.TheVariants.{Process, Executor, Session}
 use Rattle.tp_base.specs.declared.names.Site.{Site}
 use Rattle.tp_ops.specs.Limits.{IsCommand}
 use Rattle.tp_ops.specs.Parts.{is_accessed}
@@ -14,7 +15,8 @@ use Rattle.tp_ops.specs.declared.command.Command.{Command}
 use Rattle.tp_rules.proofs.EachSent.{TookOnly}
 use Rattle.tp_rules.proofs.Selections.{each_filter, each_image, each_up_to}
 use Rattle.tp_rules.specs.Acts.{Act}
-use Rattle.tp_rules.specs.Addresses.{accessed, executors_of, is_between, is_site_of, others_accessed, processes_of, site}
+use Rattle.tp_rules.specs.Addresses.{accessed, executors_of, is_between, is_name_of, is_site_of, others_accessed, processes_of, site}
+use Rattle.tp_rules.specs.Journal.{is_known}
 use Rattle.tp_script.specs.Accepted.{IsAccepted, IsCommandOf}
 use Rattle.tp_script.specs.declared.script.Script.{Script}
 use Rattle.tp_topology.specs.Counting.{up_to}
@@ -42,6 +44,7 @@ IsBodyOf script (MStable id) = Unit {0}
 IsBodyOf script (MResult id q answers) = Unit {0}
 
 pub record IsFit (script : Script) (m : Message) : Type 0 where
+  pub known : is_known script m.to ≡ true
   pub range : IsInRange m
   pub ours : IsBodyOf script m.body
 
@@ -61,6 +64,9 @@ pub between_is : (n high : ℕ) → is_between n high ≡ true → IsFrom 1 high
 between_is n high h =
     let both : (nat_le 1 n ≡ true) × (nat_le n high ≡ true) = and_parts (nat_le 1 n) (nat_le n high) h in
     (leb-true 1 n both.0, leb-true n high both.1)
+
+pub is_between-from : (n high : ℕ) → IsFrom 1 high n → is_between n high ≡ true
+is_between-from n high of = grind (arith, of.0, of.1)
 
 -- numbers of a shape are in the ranges of names
 
@@ -83,12 +89,38 @@ each_accessed shape c =
 pub each_other_accessed : (shape : Shape) (c : Command) (p : ℕ) → Each (IsFrom 1 shape.partitions) (others_accessed shape c p)
 each_other_accessed shape c p = each_filter (IsFrom 1 shape.partitions) _ (accessed shape c) (each_accessed shape c)
 
-pub each_process : (shape : Shape) → IsShape shape → (p : ℕ) → IsFrom 1 shape.partitions p → Each IsProcess (processes_of shape p)
-each_process shape is_shape p of_partition = each_image IsProcess (λ rank. Process (site p rank)) (up_to shape.replicas)
-    (each_weaker (IsFrom 1 shape.replicas) (λ rank. IsSite (site p rank)) (λ k. site_in_range shape is_shape p k of_partition)
+pub site_known : (shape : Shape) (p k : ℕ) → IsFrom 1 shape.partitions p → IsFrom 1 shape.replicas k → is_site_of shape (site p k) ≡ true
+site_known shape p k of_partition of_rank =
+    grind (arith, is_between-from p shape.partitions of_partition, is_between-from k shape.replicas of_rank)
+
+-- a process of the script
+abbrev pub IsProcessOf : Script → ActorName → Type 0
+IsProcessOf script to = IsProcess to × (is_known script to ≡ true)
+
+-- an executor of the script
+abbrev pub IsExecutorOf : Script → ActorName → Type 0
+IsExecutorOf script to = IsExecutor to × (is_known script to ≡ true)
+
+pub each_process : (script : Script) → IsShape script.topology → (p : ℕ) → IsFrom 1 script.topology.partitions p
+    → Each (IsProcessOf script) (processes_of script.topology p)
+each_process script is_shape p of_partition =
+    let shape : Shape = script.topology in
+    each_image (IsProcessOf script) (λ rank. Process (site p rank)) (up_to shape.replicas)
+    (each_weaker (IsFrom 1 shape.replicas) (λ rank. IsProcessOf script (Process (site p rank)))
+    (λ k of. (site_in_range shape is_shape p k of_partition of, site_known shape p k of_partition of))
     (up_to shape.replicas) (each_up_to shape.replicas))
 
-pub each_executor : (shape : Shape) → IsShape shape → (p : ℕ) → IsFrom 1 shape.partitions p → Each IsExecutor (executors_of shape p)
-each_executor shape is_shape p of_partition = each_image IsExecutor (λ rank. Executor (site p rank)) (up_to shape.replicas)
-    (each_weaker (IsFrom 1 shape.replicas) (λ rank. IsSite (site p rank)) (λ k. site_in_range shape is_shape p k of_partition)
+pub each_executor : (script : Script) → IsShape script.topology → (p : ℕ) → IsFrom 1 script.topology.partitions p
+    → Each (IsExecutorOf script) (executors_of script.topology p)
+each_executor script is_shape p of_partition =
+    let shape : Shape = script.topology in
+    each_image (IsExecutorOf script) (λ rank. Executor (site p rank)) (up_to shape.replicas)
+    (each_weaker (IsFrom 1 shape.replicas) (λ rank. IsExecutorOf script (Executor (site p rank)))
+    (λ k of. (site_in_range shape is_shape p k of_partition of, site_known shape p k of_partition of))
     (up_to shape.replicas) (each_up_to shape.replicas))
+
+-- a process that a shape has is one of the script's
+pub known_process : (script : Script) (from : ActorName) → IsProcess from → is_name_of script.topology from ≡ true → is_known script from ≡ true
+known_process script (Process s) is_process named = named
+known_process script (Executor s) is_process named = absurd is_process
+known_process script (Session s) is_process named = absurd is_process

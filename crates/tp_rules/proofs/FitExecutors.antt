@@ -3,6 +3,7 @@ use Rattle.std.proofs.Common.{◌≡◌, ℕ, suc, ◌≤◌, Bool, true, false,
 use Rattle.std.proofs.lemmas.Bool.{and_parts, cond_both}
 use Rattle.std.specs.Prelude.{filter, not, ◌&&◌}
 use Rattle.std.specs.Str.{bytes_eq}
+use Rattle.tp_base.proofs.Each.{each_in}
 use Rattle.tp_base.specs.Limits.{IsFrom}
 use Rattle.tp_base.specs.Lists.{Each, has}
 use Rattle.tp_base.specs.Names.{key_lt, same_id, same_name}
@@ -16,13 +17,13 @@ use Rattle.tp_ops.specs.Store.{Contents, after, after_all, answer_of, answers_of
 use Rattle.tp_ops.specs.declared.command.Command.{Command}
 use Rattle.tp_ops.specs.declared.operation.Op.{Op}
 use Rattle.tp_ops.specs.declared.operation.Op.TheVariants.{Get, Put, Del, Cas}
-use Rattle.tp_rules.proofs.Fit.{IsBodyOf, IsCommandHere, IsFit, IsFitAct, command_in_range, site_in_range, site_is}
+use Rattle.tp_rules.proofs.Fit.{IsBodyOf, IsCommandHere, IsFit, IsFitAct, command_in_range, is_between-from, site_in_range, site_is}
 use Rattle.tp_rules.proofs.Selections.{IfAny, each_filter, filter_shorter, filter_some}
 use Rattle.tp_rules.specs.Acts.{Act, Took, Did}
 use Rattle.tp_rules.specs.Addresses.{is_between, is_body_at, is_name_of, is_site_of, rank_of}
 use Rattle.tp_rules.specs.Executor.{Committed, ExecutorState, Moved, committed_ids, execute_least, executed, least, lesser, on_body, on_committed, on_promises, react, state_after, waiting}
 use Rattle.tp_rules.specs.declared.event.Inner.TheVariants.{Announce, Execute}
-use Rattle.tp_script.specs.Accepted.{IsAccepted}
+use Rattle.tp_script.specs.Accepted.{IsAccepted, IsCommandOf}
 use Rattle.tp_script.specs.declared.script.Script.{Script}
 use Rattle.tp_wire.specs.declared.message.Body.{Body}
 use Rattle.tp_wire.specs.declared.message.Body.TheVariants.{MPromises, MCommitted}
@@ -109,6 +110,7 @@ module _ (script : Script) (accepted : IsAccepted script) (me : Site) (here : is
   executed_fit state c sound ours =
       let partitions : ℕ = script.topology.partitions in
       let is_command : IsCommand c = command_in_range script c accepted ours.ours in
+      let is_of : IsCommandOf script.homes c = each_in (IsCommandOf script.homes) script.commands c accepted.commands ours.ours in
       let ops : List Op = ops_on partitions me.partition.0 c.ops in
       let each_op : Each IsOp ops = ops_fit partitions me.partition.0 c is_command in
       let many : IsFrom 1 16 (length ops) = ops_many partitions me.partition.0 c is_command ours.accesses in
@@ -117,6 +119,7 @@ module _ (script : Script) (accepted : IsAccepted script) (me : Site) (here : is
         record { committed = sound.committed; contents = after_all_fit ops state.contents each_op sound.contents },
         (
           record {
+            known = is_between-from c.id.session.0 (length script.homes) is_of.1;
             range = (
               site_in_range script.topology accepted.shape me.partition.0 me.rank.0 of.0 of.1,
               is_command.0.0,

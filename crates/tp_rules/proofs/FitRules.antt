@@ -17,7 +17,7 @@ use Rattle.tp_ops.specs.declared.command.Command.{Command}
 use Rattle.tp_quorum.specs.Choice.{fast_choice, present}
 use Rattle.tp_quorum.specs.declared.choice.FastChoice.{FastChoice}
 use Rattle.tp_quorum.specs.declared.choice.FastChoice.TheVariants.{Fast, Slow}
-use Rattle.tp_rules.proofs.Fit.{IsBodyOf, IsCommandHere, IsFit, IsFitAct}
+use Rattle.tp_rules.proofs.Fit.{IsBodyOf, IsCommandHere, IsFit, IsFitAct, IsProcessOf, known_process}
 use Rattle.tp_rules.proofs.FitProcesses.{IsProcessSound, IsSheetSound, acknowledged_sound, bumped_sound, command_or_here, ids_of, kept_sound, proposing_sound, putting_sound, start_sound, with_proposal_sound, with_sheet_sound, with_stamp_sound}
 use Rattle.tp_rules.proofs.FitSends.{announced_fit, bumps_fit, commits_fit, is_command, own_ballot, own_partition, own_site, proposals_fit, setting_of, votes_fit}
 use Rattle.tp_rules.proofs.FitStamps.{IsChoiceInRange, choice_number, final_number, present_fit}
@@ -30,7 +30,7 @@ use Rattle.tp_rules.specs.declared.event.Inner.TheVariants.{Announce}
 use Rattle.tp_script.specs.Accepted.{IsAccepted}
 use Rattle.tp_script.specs.declared.script.Script.{Script}
 use Rattle.tp_topology.specs.Shape.{fast_size}
-use Rattle.tp_wire.specs.Ranges.{IsBody, IsNumber, IsProcess}
+use Rattle.tp_wire.specs.Ranges.{IsBody, IsNumber}
 use Rattle.tp_wire.specs.declared.message.Body.{Body}
 use Rattle.tp_wire.specs.declared.message.Body.TheVariants.{MSubmit, MPropose, MPayload, MProposeAck, MCommit}
 
@@ -72,7 +72,7 @@ module _ (script : Script) (accepted : IsAccepted script) (in_quorum : Command �
       let site = own_site script accepted in_quorum me here in (
         bumped_sound script me.partition.0 t (with_sheet id sheet state)
             (with_sheet_sound script me.partition.0 id sheet state sound new same) room,
-        (record { range = (site, site, is_command script accepted in_quorum me here c ours, number); ours = ours.ours }, tt),
+        (record { known = here; range = (site, site, is_command script accepted in_quorum me here c ours, number); ours = ours.ours }, tt),
       )
 
   final_fit : (sheet : Sheet) (o : Option Command) → IsSheet sheet → IfAny IsHere o → IfAny IsNumber (final_stamp script.topology sheet o)
@@ -197,7 +197,7 @@ module _ (script : Script) (accepted : IsAccepted script) (in_quorum : Command �
       (λ t. submitted_fit c state sound ours (no_proposal c state (and_parts (c.home.0 == me.rank.0) fresh t).1))
       (λ f room. (sound, tt))
 
-  proposed_fit : (from : ActorName) (c : Command) (floor : ℕ) (state : ProcessState) → IsSound state → IsProcess from → IsHere c
+  proposed_fit : (from : ActorName) (c : Command) (floor : ℕ) (state : ProcessState) → IsSound state → IsProcessOf script from → IsHere c
       → is_none (state.sheets c.id).proposal ≡ true
       → Goes (proposed setting me from c (next_stamp floor state) (state.sheets c.id) state)
   proposed_fit from c floor state sound is_process ours fresh room =
@@ -208,13 +208,13 @@ module _ (script : Script) (accepted : IsAccepted script) (in_quorum : Command �
         proposing_sound script me.partition.0 c.id t (with_proposal t Proposal (kept c sheet)) state sound room (omega arith) (id_ours c ours) fresh
             (proposal_sound c t sheet ours (sound.sheets c.id)) refl,
         (
-          record { range = (own_site script accepted in_quorum me here, is_process, range.0, number); ours = tt },
+          record { known = is_process.1; range = (own_site script accepted in_quorum me here, is_process.0, range.0, number); ours = tt },
           bumps_fit script accepted in_quorum me here (command_or c sheet) t
               (command_or_here script me.partition.0 c sheet ours (sound.sheets c.id)) number,
         ),
       )
 
-  propose_fit : (from : ActorName) (c : Command) (floor : ℕ) (state : ProcessState) → IsSound state → IsProcess from → IsHere c
+  propose_fit : (from : ActorName) (c : Command) (floor : ℕ) (state : ProcessState) → IsSound state → IsProcessOf script from → IsHere c
       → Goes (on_propose setting me from c floor state)
   propose_fit from c floor state sound is_process ours =
       cond_both (is_fresh me.partition.0 (state.sheets c.id))
@@ -253,13 +253,13 @@ module _ (script : Script) (accepted : IsAccepted script) (in_quorum : Command �
   commit_brought c q ours at = brought c ours (and_parts _ (is_between q script.topology.partitions) at).0
 
   body_fit : (from to : ActorName) (body : Body) (state : ProcessState) → IsSound state → IsBody from to body → IsBodyOf script body
-      → is_body_at script.topology me.partition.0 body ≡ true → Goes (on_body setting me from body state)
-  body_fit from to (MSubmit c) state sound range ours at room = submit_fit c state sound (brought c ours at) room
-  body_fit from to (MPropose c floor) state sound range ours at room = propose_fit from c floor.0 state sound range.0 (brought c ours at) room
-  body_fit from to (MPayload c) state sound range ours at room = payload_fit c state sound (brought c ours at) room
-  body_fit from to (MProposeAck id t) state sound range ours at room = propose_ack_fit from id t.0 state sound range.3 room
-  body_fit from to (MCommit c q t) state sound range ours at room = commit_fit c q.0 t.0 state sound (commit_brought c q.0 ours at) range.4 room
-  body_fit from to _ state sound range ours at room = (sound, tt)
+      → is_name_of script.topology from ≡ true → is_body_at script.topology me.partition.0 body ≡ true → Goes (on_body setting me from body state)
+  body_fit from to (MSubmit c) state sound range ours named at room = submit_fit c state sound (brought c ours at) room
+  body_fit from to (MPropose c floor) state sound range ours named at room = propose_fit from c floor.0 state sound (range.0, known_process script from range.0 named) (brought c ours at) room
+  body_fit from to (MPayload c) state sound range ours named at room = payload_fit c state sound (brought c ours at) room
+  body_fit from to (MProposeAck id t) state sound range ours named at room = propose_ack_fit from id t.0 state sound range.3 room
+  body_fit from to (MCommit c q t) state sound range ours named at room = commit_fit c q.0 t.0 state sound (commit_brought c q.0 ours at) range.4 room
+  body_fit from to _ state sound range ours named at room = (sound, tt)
 
   -- what it keeps and sends
   pub process_fit : (act : Act) (state : ProcessState) → IsFitAct script act → IsSound state
@@ -270,7 +270,9 @@ module _ (script : Script) (accepted : IsAccepted script) (in_quorum : Command �
       let at : Bool = is_body_at script.topology me.partition.0 m.body in
       let moved : Moved = on_body setting me m.from m.body state in
       cond_both (to_me && named && at) (with_room state moved) (state, []) IsSettled
-      (λ t. room_fit state moved sound (body_fit m.from m.to m.body state sound fit.range fit.ours (and_parts (to_me && named) at t).1))
+      (λ t.
+      let both : ((to_me && named) ≡ true) × (at ≡ true) = and_parts (to_me && named) at t in
+      room_fit state moved sound (body_fit m.from m.to m.body state sound fit.range fit.ours (and_parts to_me named both.0).1 both.1))
       (λ f. (sound, tt))
   process_fit (Did Announce) state fit sound = announce_fit state sound
   process_fit (Did _) state fit sound = (sound, tt)

@@ -17,7 +17,7 @@ use Rattle.tp_base.specs.declared.names.Site.{Site}
 use Rattle.tp_ops.specs.Limits.{IsCommand}
 use Rattle.tp_ops.specs.declared.command.Command.{Command}
 use Rattle.tp_rules.proofs.Distinct.{distinct_within}
-use Rattle.tp_rules.proofs.Fit.{IsCommandHere, IsFit, command_in_range, each_accessed, each_executor, each_other_accessed, each_process, site_in_range, site_is}
+use Rattle.tp_rules.proofs.Fit.{IsCommandHere, IsExecutorOf, IsFit, IsProcessOf, site_known, command_in_range, each_accessed, each_executor, each_other_accessed, each_process, site_in_range, site_is}
 use Rattle.tp_rules.proofs.FitProcesses.{IsProcessSound, ids_of}
 use Rattle.tp_rules.proofs.FitPromises.{untold_attached}
 use Rattle.tp_rules.proofs.Selections.{IfAny, each_filter, each_image, each_spread, each_up_to, filter_shorter}
@@ -27,7 +27,7 @@ use Rattle.tp_rules.specs.Sheet.{Setting}
 use Rattle.tp_script.specs.Accepted.{IsAccepted}
 use Rattle.tp_script.specs.declared.script.Script.{Script}
 use Rattle.tp_topology.specs.Counting.{up_to}
-use Rattle.tp_wire.specs.Ranges.{IsExecutor, IsNumber, IsProcess}
+use Rattle.tp_wire.specs.Ranges.{IsNumber}
 use Rattle.tp_wire.specs.declared.message.Body.{Body}
 use Rattle.tp_wire.specs.declared.message.Body.TheVariants.{MPropose, MPayload, MBump, MConsensus, MCommit, MPromises}
 
@@ -62,7 +62,11 @@ module _ (script : Script) (accepted : IsAccepted script) (in_quorum : Command �
       each_image (IsFit script) (λ to. message (Process me) to body) (map (λ q. Process (site q me.rank.0)) others)
       (each_image (λ to. IsFit script (message (Process me) to body)) (λ q. Process (site q me.rank.0)) others
       (each_weaker (IsFrom 1 script.topology.partitions) (λ q. IsFit script (message (Process me) (Process (site q me.rank.0)) body))
-      (λ q of. record { range = (own_site, site_in_range script.topology accepted.shape q me.rank.0 of own_rank, range.0, number); ours = tt })
+      (λ q of. record {
+        known = site_known script.topology q me.rank.0 of own_rank;
+        range = (own_site, site_in_range script.topology accepted.shape q me.rank.0 of own_rank, range.0, number);
+        ours = tt;
+      })
       others (each_other_accessed script.topology c me.partition.0)))
 
   pub proposals_fit : (c : Command) (t : ℕ) → IsCommandHere script me.partition.0 c → IsNumber t
@@ -75,10 +79,11 @@ module _ (script : Script) (accepted : IsAccepted script) (in_quorum : Command �
       each_image (IsFit script) _ others
       (each_weaker (IsFrom 1 script.topology.replicas) _
       (λ rank of.
+      let is_there : is_site_of script.topology (site me.partition.0 rank) ≡ true = site_known script.topology me.partition.0 rank own_partition of in
       let there : IsSite (site me.partition.0 rank) = site_in_range script.topology accepted.shape me.partition.0 rank own_partition of in
       cond_both (in_quorum c rank) (MPropose c (record { 0 = t })) (MPayload c) (λ (body : Body). IsFit script (message (Process me) (to rank) body))
-      (λ t. record { range = (own_site, there, range, number); ours = ours.ours })
-      (λ f. record { range = (own_site, there, range); ours = ours.ours }))
+      (λ t. record { known = is_there; range = (own_site, there, range, number); ours = ours.ours })
+      (λ f. record { known = is_there; range = (own_site, there, range); ours = ours.ours }))
       others (each_filter (IsFrom 1 script.topology.replicas) _ (up_to script.topology.replicas) (each_up_to script.topology.replicas)))
 
   pub commits_fit : (o : Option Command) (t : ℕ) → IfAny (IsCommandHere script me.partition.0) o → IsNumber t
@@ -89,17 +94,18 @@ module _ (script : Script) (accepted : IsAccepted script) (in_quorum : Command �
       let body : Body = MCommit c me.partition (record { 0 = t }) in
       let range : IsCommand c = is_command c ours in
       let all : List ActorName = flat_map (processes_of script.topology) (accessed script.topology c) in
-      let each_all : Each IsProcess all = each_spread IsProcess (processes_of script.topology) (accessed script.topology c)
-      (each_weaker (IsFrom 1 script.topology.partitions) (λ q. Each IsProcess (processes_of script.topology q))
-      (each_process script.topology accepted.shape) (accessed script.topology c) (each_accessed script.topology c)) in
+      let each_all : Each (IsProcessOf script) all = each_spread (IsProcessOf script) (processes_of script.topology) (accessed script.topology c)
+      (each_weaker (IsFrom 1 script.topology.partitions) (λ q. Each (IsProcessOf script) (processes_of script.topology q))
+      (each_process script accepted.shape) (accessed script.topology c) (each_accessed script.topology c)) in
       let names : List ActorName = filter (λ to. not (same_name to (Process me))) all in
       each_image (IsFit script) (λ to. message (Process me) to body) names
-      (each_weaker IsProcess (λ to. IsFit script (message (Process me) to body))
+      (each_weaker (IsProcessOf script) (λ to. IsFit script (message (Process me) to body))
       (λ to is_process. record {
-        range = (own_site, is_process, range, (own_partition.0, omega (arith, own_partition.1, accepted.shape.few_partitions)), number);
+        known = is_process.1;
+        range = (own_site, is_process.0, range, (own_partition.0, omega (arith, own_partition.1, accepted.shape.few_partitions)), number);
         ours = ours.ours;
       })
-      names (each_filter IsProcess (λ to. not (same_name to (Process me))) all each_all))
+      names (each_filter (IsProcessOf script) (λ to. not (same_name to (Process me))) all each_all))
 
   pub votes_fit : (b t : ℕ) (o : Option Command) → IfAny (IsCommandHere script me.partition.0) o → IsNumber b → IsNumber t
       → Each (IsFit script) (put_to_vote script.topology me b t o)
@@ -109,9 +115,9 @@ module _ (script : Script) (accepted : IsAccepted script) (in_quorum : Command �
       let range : IsCommand c = is_command c ours in
       let names : List ActorName = processes_of script.topology me.partition.0 in
       each_image (IsFit script) (λ to. message (Process me) to body) names
-      (each_weaker IsProcess (λ to. IsFit script (message (Process me) to body))
-      (λ to is_process. record { range = (own_site, is_process, range, number, ballot); ours = ours.ours })
-      names (each_process script.topology accepted.shape me.partition.0 own_partition))
+      (each_weaker (IsProcessOf script) (λ to. IsFit script (message (Process me) to body))
+      (λ to is_process. record { known = is_process.1; range = (own_site, is_process.0, range, number, ballot); ours = ours.ours })
+      names (each_process script accepted.shape me.partition.0 own_partition))
 
   -- an announcement has as many pairs as the script has commands, at most
 
@@ -145,11 +151,12 @@ module _ (script : Script) (accepted : IsAccepted script) (in_quorum : Command �
       let body : Body = MPromises state.told state.clock (untold state) in
       let names : List ActorName = executors_of script.topology me.partition.0 in
       each_image (IsFit script) (λ to. message (Process me) to body) names
-      (each_weaker IsExecutor (λ to. IsFit script (message (Process me) to body))
+      (each_weaker (IsExecutorOf script) (λ to. IsFit script (message (Process me) to body))
       (λ to is_executor. record {
+        known = is_executor.1;
         range = (
           own_site,
-          is_executor,
+          is_executor.0,
           more,
           (omega arith, omega (arith, sound.clock)),
           pairs_few state sound,
@@ -157,4 +164,4 @@ module _ (script : Script) (accepted : IsAccepted script) (in_quorum : Command �
         );
         ours = tt;
       })
-      names (each_executor script.topology accepted.shape me.partition.0 own_partition))
+      names (each_executor script accepted.shape me.partition.0 own_partition))

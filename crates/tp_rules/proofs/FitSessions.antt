@@ -11,7 +11,7 @@ use Rattle.tp_base.specs.declared.names.Rank.{Rank}
 use Rattle.tp_base.specs.declared.names.SessionId.{SessionId}
 use Rattle.tp_ops.specs.declared.command.Command.{Command}
 use Rattle.tp_ops.specs.declared.operation.Answer.{Answer}
-use Rattle.tp_rules.proofs.Fit.{IsFit, between_is, command_in_range, each_accessed, site_in_range}
+use Rattle.tp_rules.proofs.Fit.{IsFit, between_is, command_in_range, each_accessed, site_in_range, site_known}
 use Rattle.tp_rules.proofs.Selections.{IfAny, each_filter, each_get, each_image}
 use Rattle.tp_rules.specs.Acts.{Act, Took, Did, Client}
 use Rattle.tp_rules.specs.Addresses.{accessed, is_between, message, site}
@@ -67,6 +67,7 @@ module _ (script : Script) (accepted : IsAccepted script) (s : SessionId) (known
       (each_image (λ to. IsFit script (message (Session s) to (MSubmit c))) (λ p. Process (site p home)) (accessed script.topology c)
       (each_weaker (IsFrom 1 script.topology.partitions) (λ p. IsFit script (message (Session s) (Process (site p home)) (MSubmit c)))
       (λ p of_partition. record {
+        known = site_known script.topology p home of_partition of_home;
         range = (
           (of_session.0, omega (arith, of_session.1, accepted.sessions)),
           site_in_range script.topology accepted.shape p home of_partition of_home,

@@ -1,5 +1,6 @@
--- Each message that a free run of an accepted script sends is in the ranges of the wire format, so it has bytes.
-use Rattle.std.proofs.Common.{List, subst}
+-- Each message that a free run of an accepted script sends is in the ranges of the wire format, so it has bytes, and goes to an
+-- actor of the script.
+use Rattle.std.proofs.Common.{◌≡◌, true, List, subst}
 use Rattle.std.proofs.lemmas.List.{reverse-reverse}
 use Rattle.std.specs.Prelude.{reverse}
 use Rattle.tp_base.proofs.Each.{each_weaker}
@@ -12,7 +13,7 @@ use Rattle.tp_rules.proofs.FitRules.{process_fit, process_sound}
 use Rattle.tp_rules.proofs.FitSessions.{session_fit}
 use Rattle.tp_rules.proofs.Selections.{each_turned}
 use Rattle.tp_rules.specs.Executor as executor
-use Rattle.tp_rules.specs.Journal.{client_of, sent}
+use Rattle.tp_rules.specs.Journal.{client_of, is_known, sent}
 use Rattle.tp_rules.specs.Process as process
 use Rattle.tp_rules.specs.Session as session
 use Rattle.tp_rules.specs.Runs.{FollowsRules, IsFreeHistory, IsFreeRun}
@@ -46,6 +47,11 @@ module _ (script : Script) (accepted : IsAccepted script) where
   pub sent_in_range : (older : List Entry) → IsFreeHistory script older → Each (λ parcel. IsInRange parcel.message) (sent older)
   sent_in_range older history =
       each_weaker (λ (parcel : Parcel). IsFit script parcel.message) (λ parcel. IsInRange parcel.message) (λ parcel fit. fit.range)
+      (sent older) (sent_fit older history)
+
+  pub sent_known : (older : List Entry) → IsFreeHistory script older → Each (λ parcel. is_known script parcel.message.to ≡ true) (sent older)
+  sent_known older history =
+      each_weaker (λ (parcel : Parcel). IsFit script parcel.message) (λ parcel. is_known script parcel.message.to ≡ true) (λ parcel fit. fit.known)
       (sent older) (sent_fit older history)
 
   -- the same of a journal in its own order
