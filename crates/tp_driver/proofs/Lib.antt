@@ -1,0 +1,4 @@
+pub mod Ahead
+pub mod Nexts
+pub mod Places
+pub mod Reached

@@ -1,0 +1,211 @@
+-- What comes next where no plan and no pick says otherwise: the first output ahead, else the first actor's own step; and that it is legal.
+use Rattle.std.proofs.Common.{◌≡◌, ◌≢◌, ℕ, zero, suc, ◌+◌, ◌-◌, ◌%◌, ◌<◌, ◌≤◌, ◌⊎◌, inl, inr, Bool, true, false, cond, List, [], ◌∷◌, ◌++◌, length, map, Option, Some, None, refl, sym, ap, subst, ◌∙◌, arith}
+use Rattle.std.specs.Prelude.{not, nat_lt, is_none, ◌&&◌, filter, filter_map, option_map, slice_get, unwrap_or}
+use Rattle.std.proofs.lemmas.Bool.{cases_Bool, cond-true, cond-false, cond_both, ltb-true, not-true}
+use Rattle.tp_base.proofs.Each.{each_in}
+use Rattle.tp_base.specs.Lists.{IsIn}
+use Rattle.tp_base.specs.declared.names.ActorName.{ActorName}
+use Rattle.tp_base.specs.declared.names.ActorName.TheVariants.{Process, Executor, Session}
+use Rattle.tp_base.specs.declared.names.Site.{Site}
+use Rattle.tp_driver.proofs.Reached.{ahead_in}
+use Rattle.tp_driver.specs.Driving.{IsServed}
+use Rattle.tp_driver.specs.Fronts.{IsReached, ahead, is_behind}
+use Rattle.tp_driver.specs.declared.front.Front.{Front}
+use Rattle.tp_rules.proofs.Histories.{free_history}
+use Rattle.tp_rules.proofs.InRange.{sent_in_range, sent_known}
+use Rattle.tp_rules.proofs.NoPlan.{delivery_once, due_none, due_of_none, fate_once, left_once, line_of_none, live_all}
+use Rattle.tp_rules.proofs.OwnSteps.{executor_may, process_may, session_may}
+use Rattle.tp_rules.proofs.Parcels.{sent_output}
+use Rattle.tp_rules.specs.Acts.{Act, Did, Took}
+use Rattle.tp_rules.specs.Executor as executor
+use Rattle.tp_rules.specs.Process as process
+use Rattle.tp_rules.specs.Session as session
+use Rattle.tp_rules.specs.Journal.{act_of, acts, client_of, identity_in, is_known, is_live, output_at, sent}
+use Rattle.tp_rules.specs.Pending.{IsPicked, actors_of, due_item, index_next, inner_item, is_waiting, item, own_item, parcel_item, pending, sites_of}
+use Rattle.tp_rules.specs.Plan.{Times, deliveries, deliveries_left, due, due_of, fate_of, is_planned}
+use Rattle.tp_rules.specs.Rules.{MayMake, enabled, outputs_of}
+use Rattle.tp_rules.specs.Runs.{FollowsFate, IsFor, IsHistory, IsLegal, MayHappen, outputs_in}
+use Rattle.tp_rules.specs.Sheet.{ring_setting}
+use Rattle.tp_rules.specs.declared.event.Entry.{Entry}
+use Rattle.tp_rules.specs.declared.event.Event.{Event}
+use Rattle.tp_rules.specs.declared.event.Event.TheVariants.{Deliver, Dropped, Inner as OfItself}
+use Rattle.tp_rules.specs.declared.event.Inner.{Inner}
+use Rattle.tp_rules.specs.declared.event.Inner.TheVariants.{Submit, Recover, Announce, Declare, Execute, Crash}
+use Rattle.tp_rules.specs.declared.event.Item.{Item}
+use Rattle.tp_rules.specs.declared.event.Parcel.{Parcel}
+use Rattle.tp_script.specs.declared.script.Script.{Script}
+use Rattle.tp_wire.specs.Ranges.{IsInRange}
+
+-- lists
+
+kept_none : {X Y : Type 0} (f : X → Option Y) (xs : List X) → ((x : X) → f x ≡ None) → filter_map f xs ≡ []
+kept_none f [] h = refl
+kept_none f (x ∷ xs) h = let here : f x ≡ None = h x in rw here (kept_none f xs h)
+
+kept_same : {X Y : Type 0} (f g : X → Option Y) (xs : List X) → ((x : X) → f x ≡ g x) → filter_map f xs ≡ filter_map g xs
+kept_same f g [] h = refl
+kept_same f g (x ∷ xs) h = let here : f x ≡ g x = h x in rw (here, kept_same f g xs h) refl
+
+kept_where : {X Y : Type 0} (f : X → Option Y) (test : X → Bool) (make : X → Y) (xs : List X)
+    → ((x : X) → IsIn x xs → f x ≡ cond (test x) (Some (make x)) None) → filter_map f xs ≡ map make (filter test xs)
+kept_where f test make [] h = refl
+kept_where {X} {Y} f test make (x ∷ xs) h =
+    let rest : filter_map f xs ≡ map make (filter test xs) = kept_where f test make xs (λ y i. h y (inr i)) in
+    let here : f x ≡ cond (test x) (Some (make x)) None = h x (inl refl) in
+    elim (cases_Bool (test x)) [
+      | inl t ↦ let some : f x ≡ Some (make x) = here ∙ cond-true (test x) (Some (make x)) None t in rw (some, t) (ap (λ (l : List Y). make x ∷ l) rest)
+      | inr u ↦ let none : f x ≡ None = here ∙ cond-false (test x) (Some (make x)) None u in rw (none, u) rest
+    ]
+
+-- the delivery of an output
+abbrev pub delivery : Parcel → Item
+delivery p = item p.message.to (Deliver p.entry p.place)
+
+-- an actor's own step, whatever the plan
+abbrev pub own : Script → List Entry → ActorName → Option Item
+own script older a = inner_item a (enabled (identity_in script a) (acts older a))
+
+module _ (script : Script) (served : IsServed script) (older : List Entry) (history : IsHistory script older) where
+  waiting : (a : ActorName) → is_waiting script older a ≡ true
+  waiting a =
+      let live : is_live older a ≡ true = live_all script served.no_plan older history a in
+      let none : due_of script older a ≡ None = due_of_none script served.no_plan older a in
+      rw (live, none) refl
+
+  own_all : filter_map (own_item script older) (actors_of script) ≡ filter_map (own script older) (actors_of script)
+  own_all = kept_same (own_item script older) (own script older) (actors_of script)
+      (λ a. cond-true (is_waiting script older a) (own script older a) None (waiting a))
+
+  due_all : filter_map (due_item script older) (sites_of script) ≡ []
+  due_all = kept_none (due_item script older) (sites_of script) (λ s.
+      let none : due script older s ≡ None = due_none script served.no_plan older s in
+      cond_both (is_live older (Process s)) (inner_item (Process s) (due script older s)) None (λ (o : Option Item). o ≡ None)
+      (λ t. ap (inner_item (Process s)) none) (λ f. refl))
+
+  parcels_all : (front : Front) → IsReached script front older
+      → filter_map (parcel_item script older) (sent older) ≡ map delivery (ahead front older)
+  unfolding ahead
+  parcels_all front reached = kept_where (parcel_item script older) (λ p. not (is_behind front p)) delivery (sent older) each
+    where
+      each : (p : Parcel) → IsIn p (sent older) → parcel_item script older p ≡ cond (not (is_behind front p)) (Some (delivery p)) None
+      each p h =
+          let wait : is_waiting script older p.message.to ≡ true = waiting p.message.to in
+          let left : nat_lt 0 (deliveries_left script older p) ≡ not (is_behind front p) = reached p h in
+          let once : fate_of script older p ≡ Times 1 = fate_once script served.no_plan older p in
+          rw (wait, left, once) refl
+
+  pub pending_is : (front : Front) → IsReached script front older
+      → pending script older ≡ map delivery (ahead front older) ++ filter_map (own script older) (actors_of script)
+  unfolding pending
+  pending_is front reached =
+      let dues = due_all in
+      let parcels = parcels_all front reached in
+      let owns = own_all in
+      rw (dues, parcels, owns) refl
+
+  -- an entry that takes the first of what is pending is picked
+  pub picked_first : (first : Item) (rest : List Item) (e : Entry) → pending script older ≡ first ∷ rest → first ≡ item e.actor e.event
+      → e.outputs ≡ outputs_in script older e.actor e.event → IsPicked script older e
+  picked_first first rest e is same outputs = record {
+    item = ap (λ (n : ℕ). slice_get (pending script older) n) zeroth ∙ ap (λ (l : List Item). slice_get l 0) is ∙ ap (λ (x : Item). Some x) same;
+    outputs = outputs;
+  }
+    where
+      zeroth : index_next script older ≡ 0
+      zeroth =
+          let none : unwrap_or (slice_get script.picks (length older)) 0 ≡ 0 = ap (λ (l : List ℕ). unwrap_or (slice_get l (length older)) 0) served.no_picks in
+          ap (λ (n : ℕ). n % length (pending script older)) none ∙ ap (λ (l : List Item). 0 % length l) is ∙ grind arith
+
+  -- a delivery of an output that is ahead
+
+  module _ (front : Front) (reached : IsReached script front older) (p : Parcel) (h : IsIn p (ahead front older)) where
+    p_sent : IsIn p (sent older)
+    p_sent = (ahead_in front older p h).0
+
+    pub stands_there : output_at older p.entry p.place ≡ Some p.message
+    stands_there = sent_output older p p_sent
+
+    pub to_known : is_known script p.message.to ≡ true
+    to_known = each_in (λ (q : Parcel). is_known script q.message.to ≡ true) (sent older) p (sent_known script served.accepted older (free_history script older history)) p_sent
+
+    pub in_range : IsInRange p.message
+    in_range = each_in (λ (q : Parcel). IsInRange q.message) (sent older) p (sent_in_range script served.accepted older (free_history script older history)) p_sent
+
+    pub took : act_of older (Deliver p.entry p.place) ≡ Some (Took p.message)
+    took = ap (option_map Took) stands_there
+
+    pub delivery_legal : (e : Entry) → e.actor ≡ p.message.to → e.event ≡ Deliver p.entry p.place → e.outputs ≡ outputs_in script older e.actor e.event → IsLegal script older e
+    delivery_legal e actor event outputs = record {
+      rules = record {
+        known = ap (λ (a : ActorName). is_known script a) actor ∙ to_known;
+        live = live_all script served.no_plan older history e.actor;
+        may = subst (MayHappen script older e.actor) (sym event) (subst (IsFor e.actor) (sym stands_there) (sym actor));
+        outputs = outputs;
+      };
+      plan = record {
+        line = line_of_none script served.no_plan older e.actor e.event (ap (λ (v : Event). is_planned v) event);
+        fate = subst (FollowsFate script older) (sym event) (delivery_once script served.no_plan older p.entry p.place undelivered);
+      };
+    }
+      where
+        undelivered : deliveries older p.entry p.place ≡ 0
+        undelivered =
+            let some : nat_lt 0 (deliveries_left script older p) ≡ true = reached p p_sent ∙ (ahead_in front older p h).1 in
+            omega (arith, ltb-true 0 (deliveries_left script older p) some, left_once script served.no_plan older p)
+
+  -- a step of its own that an actor may make
+
+  pub may_make : (a : ActorName) (inner : Inner) → enabled (identity_in script a) (acts older a) ≡ Some inner
+      → MayMake (identity_in script a) (acts older a) inner × (is_planned (OfItself inner) ≡ false)
+  may_make (Process s) inner e =
+      let is : inner ≡ Announce = (process_may (process.state_after (ring_setting script.topology) s (acts older (Process s))) inner e).0 in
+      of inner is e
+    where
+      of : (i : Inner) → i ≡ Announce → enabled (identity_in script (Process s)) (acts older (Process s)) ≡ Some i
+          → MayMake (identity_in script (Process s)) (acts older (Process s)) i × (is_planned (OfItself i) ≡ false)
+      of Announce is e = (e, refl)
+      of (Submit n) is e = absurd cc
+      of (Recover id) is e = absurd cc
+      of (Declare id) is e = absurd cc
+      of (Execute id) is e = absurd cc
+      of Crash is e = absurd cc
+  may_make (Executor s) inner e =
+      let found = executor_may script.topology s (executor.state_after script.topology s (acts older (Executor s))) inner e in
+      of inner found.0.key.id found.2 e
+    where
+      of : (i : Inner) (id : _) → i ≡ Execute id → enabled (identity_in script (Executor s)) (acts older (Executor s)) ≡ Some i
+          → MayMake (identity_in script (Executor s)) (acts older (Executor s)) i × (is_planned (OfItself i) ≡ false)
+      of Announce id is e = absurd cc
+      of (Submit n) id is e = absurd cc
+      of (Recover c) id is e = absurd cc
+      of (Declare c) id is e = absurd cc
+      of (Execute c) id is e = (e, refl)
+      of Crash id is e = absurd cc
+  may_make (Session s) inner e =
+      let is = (session_may script.topology (client_of script s) (session.state_after script.topology (client_of script s) (acts older (Session s))) inner e).0 in
+      of inner _ is e
+    where
+      of : (i : Inner) (n : ℕ) → i ≡ Submit n → enabled (identity_in script (Session s)) (acts older (Session s)) ≡ Some i
+          → MayMake (identity_in script (Session s)) (acts older (Session s)) i × (is_planned (OfItself i) ≡ false)
+      of Announce n is e = absurd cc
+      of (Submit k) n is e = (e, refl)
+      of (Recover id) n is e = absurd cc
+      of (Declare id) n is e = absurd cc
+      of (Execute id) n is e = absurd cc
+      of Crash n is e = absurd cc
+
+  pub own_legal : (a : ActorName) (inner : Inner) (e : Entry) → is_known script a ≡ true → enabled (identity_in script a) (acts older a) ≡ Some inner
+      → e.actor ≡ a → e.event ≡ OfItself inner → e.outputs ≡ outputs_in script older e.actor e.event → IsLegal script older e
+  own_legal a inner e known makes actor event outputs =
+      let may = may_make a inner makes in record {
+        rules = record {
+          known = ap (λ (b : ActorName). is_known script b) actor ∙ known;
+          live = live_all script served.no_plan older history e.actor;
+          may = subst (MayHappen script older e.actor) (sym event) (subst (λ b. MayMake (identity_in script b) (acts older b) inner) (sym actor) may.0);
+          outputs = outputs;
+        };
+        plan = record {
+          line = line_of_none script served.no_plan older e.actor e.event (ap (λ (v : Event). is_planned v) event ∙ may.1);
+          fate = subst (FollowsFate script older) (sym event) tt;
+        };
+      }
