@@ -187,10 +187,7 @@ impl Executor {
 }
 
 impl Actor for Executor {
-    ghost use Rattle.std.specs.Prelude.{List, is_err};
     ghost use Rattle.tp_executor.specs.States.{Stands, identity};
-    ghost use Rattle.tp_rules.specs.Acts.{Act, Did, Took};
-    ghost use Rattle.tp_rules.specs.Rules.{MayMake, enabled, outputs_of};
 
     ghost identity_of = { identity };
 
@@ -206,24 +203,14 @@ impl Actor for Executor {
         self.spent
     }
 
-    fn deliver(&mut self, message: &Message) -> Result<Outputs, NoMemory>
-        ensures identity { identity self.new ≡ identity self.old }
-        ensures spent { self.new.spent ≡ is_err result }
-        ensures outputs { IfOk result (λ outputs. (acts : List Act) → Stands self.old acts → IsInRange message.now → outputs ≡ outputs_of (identity self.old) acts (Took message.now)) }
-        ensures stands { OnOk result ((acts : List Act) → Stands self.old acts → IsInRange message.now → Stands self.new (Took message.now ∷ acts)) }
-    {
+    fn deliver(&mut self, message: &Message) -> Result<Outputs, NoMemory> {
         let taken = self.take(message);
         self.spent = taken.is_err();
         taken?;
         Ok(Sequence::new(self.alloc))
     }
 
-    fn fire(&mut self, inner: Inner) -> Result<Outputs, NoMemory>
-        ensures identity { identity self.new ≡ identity self.old }
-        ensures spent { self.old.spent ≡ false → self.new.spent ≡ is_err result }
-        ensures outputs { IfOk result (λ outputs. (acts : List Act) → Stands self.old acts → MayMake (identity self.old) acts inner → outputs ≡ outputs_of (identity self.old) acts (Did inner)) }
-        ensures stands { OnOk result ((acts : List Act) → Stands self.old acts → MayMake (identity self.old) acts inner → Stands self.new (Did inner ∷ acts)) }
-    {
+    fn fire(&mut self, inner: Inner) -> Result<Outputs, NoMemory> {
         match inner {
             Inner::Execute(_) => {
                 let outputs = self.execute();
@@ -234,9 +221,7 @@ impl Actor for Executor {
         }
     }
 
-    fn next_inner(&self) -> Option<Inner>
-        ensures { (acts : List Act) → Stands self.now acts → result ≡ enabled (identity self.now) acts }
-    {
+    fn next_inner(&self) -> Option<Inner> {
         let next = self.queue.least()?;
         let stable = self.book.is_stable(&self.topology, next.key.stamp);
         if stable && is_alone(&self.topology, self.site.partition, &next.command) {

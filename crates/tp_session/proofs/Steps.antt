@@ -1,5 +1,5 @@
 -- How a session's fields go on with the state of the rules.
-use Rattle.std.proofs.Common.{◌≡◌, ◌≢◌, ℕ, zero, suc, ◌+◌, ◌-◌, ◌<◌, ◌≤◌, inl, inr, Bool, true, false, not, ◌&&◌, cond, List, [], ◌∷◌, ◌++◌, length, set, take, replicate, Option, Some, None, refl, sym, ap, subst, ◌∙◌, arith}
+use Rattle.std.proofs.Common.{◌≡◌, ◌≢◌, ℕ, ◌+◌, ◌-◌, ◌≤◌, inl, inr, Bool, true, false, not, ◌&&◌, cond, List, [], ◌∷◌, ◌++◌, length, set, take, replicate, Some, None, refl, sym, ap, subst, ◌∙◌, arith}
 use Rattle.std.specs.Prelude.{◌==◌, nat_le}
 use Rattle.std.proofs.lemmas.Bool.{and_parts, cases_eq, cond-true, cond-false, eq-eqb, leb-true, ne_eqb, not_from_true, not_from_false}
 use Rattle.std.proofs.lemmas.List.{length-set, length_push}
@@ -8,7 +8,7 @@ use Rattle.tp_ops.specs.declared.command.Command.{Command}
 use Rattle.tp_ops.specs.declared.operation.Answer.{Answer}
 use Rattle.tp_ops.specs.Parts.{with_part}
 use Rattle.tp_rules.specs.Acts.{Client}
-use Rattle.tp_rules.specs.Session.{Moved, SessionState, is_answered, is_awaited, is_whole, on_result, on_submit, open_count}
+use Rattle.tp_rules.specs.Session.{Moved, SessionState, is_awaited, is_whole, on_result, on_submit, open_count}
 use Rattle.tp_rules.specs.Tables.{nth, with_nth}
 use Rattle.tp_topology.specs.Counting.{count_up_to}
 use Rattle.tp_topology.specs.Shape.{Shape}

@@ -2,7 +2,7 @@ use Rattle.std.proofs.Common.{List, ◌-◌, set, ap, sym, ◌∙◌}
 use Rattle.tp_ops.specs.declared.operation.Answer.{Answer}
 use Rattle.tp_ops.specs.Parts.{with_part}
 use Rattle.tp_session.specs.States.{parts_at}
-use Rattle.tp_session.proofs.Steps.{received, refused}
+use Rattle.tp_session.proofs.Steps.{received}
 use Rattle.tp_session.proofs.session.Session.receive.Goals as goal
 
 pub returns-in_ok-answers-clause-state : goal.returns-in_ok-answers-clause-state
