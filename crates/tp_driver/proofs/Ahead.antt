@@ -1,13 +1,16 @@
 -- The outputs from a front on, as the front moves.
 use Rattle.std.proofs.Common.{◌≡◌, ◌≢◌, ℕ, zero, suc, ◌+◌, ◌<◌, ◌≤◌, inl, inr, Bool, true, false, List, [], ◌∷◌, ◌++◌, length, Option, Some, None, refl, sym, ap, subst, ◌∙◌, arith}
-use Rattle.std.specs.Prelude.{not, nat_lt, ◌==◌, ◌&&◌, ◌||◌, filter, reverse, slice_get}
+use Rattle.std.specs.Prelude.{not, nat_lt, ◌==◌, ◌&&◌, ◌||◌, drop, filter, is_some, reverse, slice_get}
 use Rattle.std.specs.Option.{option_and_then}
 use Rattle.std.proofs.lemmas.Bool.{cases_Bool, cases_eq, cases_lt, lt-ltb, le-ltb, cond-true, cond-false, eq-eqb, ne_eqb, or_left, or_right, or_from, and_from, and_left, and_right}
+use Rattle.std.proofs.lemmas.List.{length-reverse}
 use Rattle.tp_base.specs.Lists.{Ascends, Each, IsIn}
 use Rattle.tp_base.proofs.Each.{each_append, each_in, each_of}
 use Rattle.tp_base.proofs.Members.{in_either}
-use Rattle.tp_driver.specs.Fronts.{IsWithin, ahead, is_before, is_behind}
+use Rattle.tp_driver.specs.Fronts.{IsWithin, ahead, is_before, is_behind, place_of_first}
 use Rattle.tp_driver.specs.declared.front.Front.{Front}
+use Rattle.tp_journal.specs.Entered.{output_in}
+use Rattle.tp_rules.proofs.Journals.{output_is}
 use Rattle.tp_rules.proofs.Parcels.{numbered_parts, output_sent, parcel, sent_output, sent_within}
 use Rattle.tp_rules.specs.Journal.{numbered, output_at, sent}
 use Rattle.tp_rules.specs.Tables.{nth}
@@ -172,3 +175,58 @@ ahead_none older entry place past = filter_no _ (sent older) (λ p i.
     let within : p.entry ≤ length older = (sent_within older p i).1 in
     let behind : is_behind (front entry place) p ≡ true = or_left _ _ (lt-ltb p.entry entry (omega arith)) in
     ap (λ (b : Bool). not b) behind)
+
+-- the front of a driver, over a journal in its own order
+
+nothing_of : {X : Type 0} (o : Option X) → is_some o ≡ false → o ≡ None
+nothing_of None e = refl
+nothing_of (Some x) e = absurd cc
+
+something_of : {X : Type 0} (o : Option X) → is_some o ≡ true → (x : X) × (o ≡ Some x)
+something_of None e = absurd cc
+something_of (Some x) e = (x, refl)
+
+module _ (journal : List Entry) (at : Front) (within : IsWithin at (reverse journal)) where
+  as_long : length (reverse journal) ≡ length journal
+  as_long = length-reverse journal
+
+  module _ (none : is_some (output_in journal at.entry at.place) ≡ false) where
+    pub skipped : ahead (front (at.entry + 1) 1) (reverse journal) ≡ ahead at (reverse journal)
+    skipped =
+        let gone : output_at (reverse journal) at.entry at.place ≡ None = sym (output_is journal at.entry at.place) ∙ nothing_of _ none in
+        sym (ahead_skip (reverse journal) at.entry at.place within.place gone)
+
+    pub skipped_within : at.entry ≤ length journal → IsWithin (front (at.entry + 1) 1) (reverse journal)
+    skipped_within le = record {
+      low = omega arith;
+      high = omega (arith, as_long);
+      place = omega arith;
+      last = λ e. refl;
+    }
+
+  pub behind_all : length journal < at.entry → ahead at (reverse journal) ≡ []
+  behind_all past = ahead_none (reverse journal) at.entry at.place (omega (arith, as_long))
+
+  module _ (there : is_some (output_in journal at.entry at.place) ≡ true) where
+    pub found_ahead : (m : Message) × (ahead at (reverse journal) ≡ parcel at.entry at.place m ∷ ahead (front at.entry (at.place + 1)) (reverse journal))
+    found_ahead =
+        let found = something_of (output_in journal at.entry at.place) there in
+        (found.0, ahead_found (reverse journal) at.entry at.place found.0 (sym (output_is journal at.entry at.place) ∙ found.1))
+
+    pub found_within : IsWithin (front at.entry (at.place + 1)) (reverse journal)
+    found_within =
+        let found = something_of (output_in journal at.entry at.place) there in
+        let sent_there = output_sent (reverse journal) at.entry at.place found.0 (sym (output_is journal at.entry at.place) ∙ found.1) in
+        let inside : at.entry ≤ length (reverse journal) = (sent_within (reverse journal) (parcel at.entry at.place found.0) sent_there).1 in
+        record {
+          low = within.low;
+          high = within.high;
+          place = omega arith;
+          last = λ e. absurd (omega (arith, inside));
+        }
+
+    pub found_first : (before : List Parcel) → ahead at (reverse journal) ≡ before → Some (at.entry, at.place) ≡ place_of_first before
+    found_first before e = subst (λ ps. Some (at.entry, at.place) ≡ place_of_first ps) (sym found_ahead.1 ∙ e) refl
+
+    pub found_rest : (before : List Parcel) → ahead at (reverse journal) ≡ before → ahead (front at.entry (at.place + 1)) (reverse journal) ≡ drop 1 before
+    found_rest before e = subst (λ ps. ahead (front at.entry (at.place + 1)) (reverse journal) ≡ drop 1 ps) (sym found_ahead.1 ∙ e) refl

@@ -1,6 +1,6 @@
 -- What comes next where no plan and no pick says otherwise: the first output ahead, else the first actor's own step; and that it is legal.
 use Rattle.std.proofs.Common.{◌≡◌, ◌≢◌, ℕ, zero, suc, ◌+◌, ◌-◌, ◌%◌, ◌<◌, ◌≤◌, ◌⊎◌, inl, inr, Bool, true, false, cond, List, [], ◌∷◌, ◌++◌, length, map, Option, Some, None, refl, sym, ap, subst, ◌∙◌, arith}
-use Rattle.std.specs.Prelude.{not, nat_lt, is_none, ◌&&◌, filter, filter_map, option_map, slice_get, unwrap_or}
+use Rattle.std.specs.Prelude.{not, nat_lt, is_none, ◌&&◌, filter, filter_map, option_map, reverse, slice_get, unwrap_or}
 use Rattle.std.proofs.lemmas.Bool.{cases_Bool, cond-true, cond-false, cond_both, ltb-true, not-true}
 use Rattle.tp_base.proofs.Each.{each_in}
 use Rattle.tp_base.specs.Lists.{IsIn}
@@ -8,11 +8,13 @@ use Rattle.tp_base.specs.declared.names.ActorName.{ActorName}
 use Rattle.tp_base.specs.declared.names.ActorName.TheVariants.{Process, Executor, Session}
 use Rattle.tp_base.specs.declared.names.Site.{Site}
 use Rattle.tp_driver.proofs.Reached.{ahead_in}
-use Rattle.tp_driver.specs.Driving.{IsServed}
+use Rattle.tp_driver.specs.Driving.{ComesNext, IsDriven, IsServed, MayMakeNext, own_steps}
 use Rattle.tp_driver.specs.Fronts.{IsReached, ahead, is_behind}
 use Rattle.tp_driver.specs.declared.front.Front.{Front}
 use Rattle.tp_rules.proofs.Histories.{free_history}
 use Rattle.tp_rules.proofs.InRange.{sent_in_range, sent_known}
+use Rattle.tp_journal.specs.Entered.{output_in}
+use Rattle.tp_rules.proofs.Journals.{output_is, picked_run_more, run_more}
 use Rattle.tp_rules.proofs.NoPlan.{delivery_once, due_none, due_of_none, fate_once, left_once, line_of_none, live_all}
 use Rattle.tp_rules.proofs.OwnSteps.{executor_may, process_may, session_may}
 use Rattle.tp_rules.proofs.Parcels.{sent_output}
@@ -21,10 +23,10 @@ use Rattle.tp_rules.specs.Executor as executor
 use Rattle.tp_rules.specs.Process as process
 use Rattle.tp_rules.specs.Session as session
 use Rattle.tp_rules.specs.Journal.{act_of, acts, client_of, identity_in, is_known, is_live, output_at, sent}
-use Rattle.tp_rules.specs.Pending.{IsPicked, actors_of, due_item, index_next, inner_item, is_waiting, item, own_item, parcel_item, pending, sites_of}
+use Rattle.tp_rules.specs.Pending.{IsPicked, IsPickedRun, IsQuiet, actors_of, due_item, index_next, inner_item, is_waiting, item, own_item, parcel_item, pending, sites_of}
 use Rattle.tp_rules.specs.Plan.{Times, deliveries, deliveries_left, due, due_of, fate_of, is_planned}
 use Rattle.tp_rules.specs.Rules.{MayMake, enabled, outputs_of}
-use Rattle.tp_rules.specs.Runs.{FollowsFate, IsFor, IsHistory, IsLegal, MayHappen, outputs_in}
+use Rattle.tp_rules.specs.Runs.{FollowsFate, IsFor, IsHistory, IsLegal, IsRun, MayHappen, outputs_by, outputs_in}
 use Rattle.tp_rules.specs.Sheet.{ring_setting}
 use Rattle.tp_rules.specs.declared.event.Entry.{Entry}
 use Rattle.tp_rules.specs.declared.event.Event.{Event}
@@ -35,6 +37,7 @@ use Rattle.tp_rules.specs.declared.event.Item.{Item}
 use Rattle.tp_rules.specs.declared.event.Parcel.{Parcel}
 use Rattle.tp_script.specs.declared.script.Script.{Script}
 use Rattle.tp_wire.specs.Ranges.{IsInRange}
+use Rattle.tp_wire.specs.declared.message.Message.{Message}
 
 -- lists
 
@@ -62,7 +65,7 @@ abbrev pub delivery : Parcel → Item
 delivery p = item p.message.to (Deliver p.entry p.place)
 
 -- an actor's own step, whatever the plan
-abbrev pub own : Script → List Entry → ActorName → Option Item
+abbrev own : Script → List Entry → ActorName → Option Item
 own script older a = inner_item a (enabled (identity_in script a) (acts older a))
 
 module _ (script : Script) (served : IsServed script) (older : List Entry) (history : IsHistory script older) where
@@ -209,3 +212,96 @@ module _ (script : Script) (served : IsServed script) (older : List Entry) (hist
           fate = subst (FollowsFate script older) (sym event) tt;
         };
       }
+
+-- a journal in its own order
+
+module _ (script : Script) (served : IsServed script) (journal : List Entry) (run : IsRun script journal) where
+  pub as_history : IsHistory script (reverse journal)
+  unfolding IsRun
+  as_history = run
+
+  -- what is pending where the front has reached so far
+  pub pending_from : (front : Front) → IsReached script front (reverse journal)
+      → pending script (reverse journal) ≡ map delivery (ahead front (reverse journal)) ++ own_steps script journal
+  unfolding own_steps
+  pending_from front reached = pending_is script served (reverse journal) as_history front reached
+
+  -- where nothing is ahead, that is what the actors may do by themselves
+  pub pending_own : (front : Front) → IsReached script front (reverse journal) → ahead front (reverse journal) ≡ []
+      → pending script (reverse journal) ≡ own_steps script journal
+  pending_own front reached none = pending_from front reached ∙ ap (λ (ps : List Parcel). map delivery ps ++ own_steps script journal) none
+
+  pub quiet_from : (front : Front) → IsReached script front (reverse journal) → ahead front (reverse journal) ≡ [] → own_steps script journal ≡ []
+      → IsQuiet script journal
+  unfolding IsQuiet
+  quiet_from front reached none still = pending_own front reached none ∙ still
+
+  pub entered : (e : Entry) → IsPickedRun script journal → IsLegal script (reverse journal) e → IsPicked script (reverse journal) e
+      → IsDriven script (journal ++ e ∷ [])
+  entered e picked legal is_picked = record { run = run_more script journal e run legal; picked = picked_run_more script journal e picked is_picked }
+
+  -- with the delivery of the first output ahead
+  pub entered_delivery : (entry place : ℕ) (next : ComesNext script journal entry place) (e : Entry) → IsPickedRun script journal
+      → e.actor ≡ next.message.to → e.event ≡ Deliver entry place
+      → e.outputs ≡ outputs_of (identity_in script next.message.to) (acts (reverse journal) next.message.to) (Took next.message)
+      → IsDriven script (journal ++ e ∷ [])
+  entered_delivery entry place next e picked actor event sends =
+      let p : Parcel = record { entry = entry; place = place; message = next.message } in
+      let there : IsIn p (ahead next.front (reverse journal)) = subst (IsIn p) (sym next.is) (inl refl) in
+      let act : act_of (reverse journal) e.event ≡ Some (Took next.message) =
+      ap (act_of (reverse journal)) event ∙ took script served (reverse journal) as_history next.front next.reached p there in
+      let outputs : e.outputs ≡ outputs_in script (reverse journal) e.actor e.event =
+      sends ∙ ap (λ (a : ActorName). outputs_of (identity_in script a) (acts (reverse journal) a) (Took next.message)) (sym actor)
+      ∙ ap (outputs_by script (reverse journal) e.actor) (sym act) in
+      let first : item p.message.to (Deliver entry place) ≡ item e.actor e.event = cc in
+      entered e picked
+      (delivery_legal script served (reverse journal) as_history next.front next.reached p there e actor event outputs)
+      (picked_first script served (reverse journal) as_history (delivery p) (map delivery next.rest ++ own_steps script journal) e
+      (pending_from next.front next.reached ∙ ap (λ (ps : List Parcel). map delivery ps ++ own_steps script journal) next.is) first outputs)
+
+  -- with the first of the actors' own steps
+  pub entered_own : (a : ActorName) (inner : Inner) (next : MayMakeNext script journal a inner) (e : Entry) → IsPickedRun script journal
+      → e.actor ≡ a → e.event ≡ OfItself inner → e.outputs ≡ outputs_of (identity_in script a) (acts (reverse journal) a) (Did inner)
+      → IsDriven script (journal ++ e ∷ [])
+  entered_own a inner next e picked actor event sends =
+      let act : act_of (reverse journal) e.event ≡ Some (Did inner) = ap (act_of (reverse journal)) event in
+      let outputs : e.outputs ≡ outputs_in script (reverse journal) e.actor e.event =
+      sends ∙ ap (λ (b : ActorName). outputs_of (identity_in script b) (acts (reverse journal) b) (Did inner)) (sym actor)
+      ∙ ap (outputs_by script (reverse journal) e.actor) (sym act) in
+      let first : item a (OfItself inner) ≡ item e.actor e.event = cc in
+      entered e picked
+      (own_legal script served (reverse journal) as_history a inner e next.own.known next.own.enabled actor event outputs)
+      (picked_first script served (reverse journal) as_history (item a (OfItself inner)) next.own.rest e (next.pending ∙ next.own.is) first outputs)
+
+  -- the message that is taken
+
+  module _ (entry place : ℕ) (next : ComesNext script journal entry place) where
+    abbrev first : Parcel
+    first = record { entry = entry; place = place; message = next.message }
+
+    first_ahead : IsIn first (ahead next.front (reverse journal))
+    first_ahead = subst (IsIn first) (sym next.is) (inl refl)
+
+    pub first_output : output_in journal entry place ≡ Some next.message
+    first_output = output_is journal entry place ∙ stands_there script served (reverse journal) as_history next.front next.reached first first_ahead
+
+    module _ (m : Message) (at : Some m ≡ output_in journal entry place) where
+      m_is : next.message ≡ m
+      m_is = let same : Some m ≡ Some next.message = at ∙ first_output in cc
+
+      pub known_to : is_known script m.to ≡ true
+      known_to = subst (λ (x : Message). is_known script x.to ≡ true) m_is (to_known script served (reverse journal) as_history next.front next.reached first first_ahead)
+
+      pub m_range : IsInRange m
+      m_range = subst IsInRange m_is (in_range script served (reverse journal) as_history next.front next.reached first first_ahead)
+
+      pub m_act : act_of (reverse journal) (Deliver entry place) ≡ Some (Took m)
+      m_act = took script served (reverse journal) as_history next.front next.reached first first_ahead ∙ ap (λ (x : Message). Some (Took x)) m_is
+
+      pub delivered : (e : Entry) → IsPickedRun script journal → e.actor ≡ m.to → e.event ≡ Deliver entry place
+          → e.outputs ≡ outputs_of (identity_in script m.to) (acts (reverse journal) m.to) (Took m) → IsDriven script (journal ++ e ∷ [])
+      delivered e picked actor event sends =
+          let to : e.actor ≡ next.message.to = actor ∙ ap (λ (x : Message). x.to) (sym m_is) in
+          let sends' : e.outputs ≡ outputs_of (identity_in script next.message.to) (acts (reverse journal) next.message.to) (Took next.message) =
+          sends ∙ ap (λ (x : Message). outputs_of (identity_in script x.to) (acts (reverse journal) x.to) (Took x)) (sym m_is) in
+          entered_delivery entry place next e picked to event sends'

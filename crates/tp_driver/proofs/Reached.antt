@@ -1,19 +1,25 @@
 -- The outputs from the front on are those that may still be delivered, after one more entry too.
 use Rattle.std.proofs.Common.{◌≡◌, ◌≢◌, ℕ, zero, suc, ◌+◌, ◌-◌, ◌<◌, ◌≤◌, inl, inr, Bool, true, false, List, [], ◌∷◌, ◌++◌, length, Option, Some, None, refl, sym, ap, subst, ◌∙◌, arith}
-use Rattle.std.specs.Prelude.{not, nat_lt, ◌==◌, ◌&&◌, ◌||◌, filter}
+use Rattle.std.specs.Prelude.{not, nat_lt, ◌==◌, ◌&&◌, ◌||◌, drop, filter, reverse}
 use Rattle.std.proofs.lemmas.Bool.{both_ways, not-true, cases_Bool, cases_eq, eq-eqb, ne_eqb, not_from_false, false_from_ne_true, or_from, le-ltb, and_left, and_right, and_from, and_parts, eqb-true}
 use Rattle.tp_base.specs.Lists.{Ascends, Each, IsIn}
 use Rattle.tp_base.proofs.Each.{each_in, each_of}
+use Rattle.tp_base.proofs.Ends.{reverse_push}
 use Rattle.tp_base.proofs.Members.{in_either}
 use Rattle.tp_driver.proofs.Ahead.{before_self, sent_ascends}
-use Rattle.tp_driver.specs.Fronts.{IsReached, IsWithin, ahead, is_before, is_behind}
+use Rattle.tp_driver.specs.Driving.{ComesNext, IsDriven, IsFront, IsOneMore, IsServed}
+use Rattle.tp_driver.specs.Fronts.{IsReached, IsWithin, ahead, is_before, is_behind, place_of_first}
 use Rattle.tp_driver.specs.declared.front.Front.{Front}
+use Rattle.tp_rules.proofs.Histories.{free_history}
+use Rattle.tp_rules.proofs.Journals.{picked_run_none, run_none}
 use Rattle.tp_rules.proofs.NoPlan.{left_once}
 use Rattle.tp_rules.proofs.Parcels.{numbered_parts, output_sent, parcel, same_parcel, sent_within}
+use Rattle.tp_rules.proofs.RunsEnd.{left_after}
 use Rattle.tp_rules.proofs.Tallies.{count_no, count_yes, filter_in, in_filter}
 use Rattle.tp_rules.specs.Journal.{is_delivery_of, numbered, output_at, sent}
+use Rattle.tp_rules.specs.Left.{left}
 use Rattle.tp_rules.specs.Plan.{deliveries, deliveries_left}
-use Rattle.tp_rules.specs.Runs.{FollowsRules, IsFor, IsFreeHistory, MayHappen}
+use Rattle.tp_rules.specs.Runs.{FollowsRules, IsFor, IsFreeHistory, IsHistory, IsRun, MayHappen}
 use Rattle.tp_rules.specs.declared.event.Entry.{Entry}
 use Rattle.tp_rules.specs.declared.event.Event.{Event}
 use Rattle.tp_rules.specs.declared.event.Event.TheVariants.{Deliver, Dropped, Inner as OfItself}
@@ -32,6 +38,13 @@ ahead_in front older p h = filter_in (λ p. not (is_behind front p)) (sent older
 pub in_ahead : (front : Front) (older : List Entry) (p : Parcel) → IsIn p (sent older) → not (is_behind front p) ≡ true → IsIn p (ahead front older)
 unfolding ahead
 in_ahead front older p h k = in_filter (λ p. not (is_behind front p)) (sent older) p h k
+
+-- where nothing is ahead, each output is behind
+behind_at : (older : List Entry) (front : Front) (p : Parcel) → ahead front older ≡ [] → IsIn p (sent older) → is_behind front p ≡ true
+behind_at older front p gone h = elim (cases_Bool (is_behind front p)) [
+  | inl t ↦ t
+  | inr f ↦ absurd (subst (IsIn p) gone (in_ahead front older p h (not_from_false _ f)))
+]
 
 filter_ascends : {X : Type 0} (before : X → X → Bool) (test : X → Bool) (xs : List X) → Ascends before xs → Ascends before (filter test xs)
 filter_ascends before test [] h = tt
@@ -172,13 +185,88 @@ module _ (script : Script) (no_plan : script.plan ≡ []) (older : List Entry) (
       → ahead before older ≡ [] → ahead after older ≡ [] → e.event ≡ OfItself inner → IsReached script after (e ∷ older)
   reached_own before after inner reached within none still event = by_entry after within each
     where
-      behind : (front : Front) (p : Parcel) → ahead front older ≡ [] → IsIn p (sent older) → is_behind front p ≡ true
-      behind front p gone h = elim (cases_Bool (is_behind front p)) [
-        | inl t ↦ t
-        | inr f ↦ absurd (subst (IsIn p) gone (in_ahead front older p h (not_from_false _ f)))
-      ]
-
       each : (p : Parcel) → IsIn p (sent older) → nat_lt 0 (deliveries_left script (e ∷ older) p) ≡ not (is_behind after p)
       each p h =
           ap (λ (n : ℕ). nat_lt 0 n) (left_stays p (ap (is_delivery_of p.entry p.place) event)) ∙ reached p h
-          ∙ ap (λ (b : Bool). not b) (behind before p none h ∙ sym (behind after p still h))
+          ∙ ap (λ (b : Bool). not b) (behind_at older before p none h ∙ sym (behind_at older after p still h))
+
+pub within_more : (front : Front) (older : List Entry) (e : Entry) → IsWithin front older → IsWithin front (e ∷ older)
+within_more front older e within = record {
+  low = within.low;
+  high = omega (arith, within.high);
+  place = within.place;
+  last = λ at. absurd (omega (arith, within.high));
+}
+
+-- where nothing is ahead, the front may stand anywhere behind
+pub reached_still : (script : Script) (older : List Entry) (before after : Front) → IsReached script before older → ahead before older ≡ [] → ahead after older ≡ []
+    → IsReached script after older
+reached_still script older before after reached none still p h = reached p h ∙ ap (λ (b : Bool). not b) (behind_at older before p none h ∙ sym (behind_at older after p still h))
+
+same_pair : {q r : ℕ × ℕ} → Some q ≡ Some r → q ≡ r
+same_pair h = cc
+
+-- a front and the journal after one more entry
+
+module _ (script : Script) (served : IsServed script) (journal after : List Entry) (driven : IsDriven script after) where
+  free_after : (e : Entry) → after ≡ journal ++ e ∷ [] → IsFreeHistory script (e ∷ reverse journal)
+  unfolding IsRun
+  free_after e is = free_history script (e ∷ reverse journal) (subst (IsHistory script) (ap (λ (l : List Entry). reverse l) is ∙ reverse_push journal e) driven.run)
+
+  moved_front : (e : Entry) (front : Front) → after ≡ journal ++ e ∷ [] → IsWithin front (reverse journal) → IsReached script front (e ∷ reverse journal) → IsFront script front after
+  moved_front e front is within reached =
+      let turned : e ∷ reverse journal ≡ reverse after = sym (ap (λ (l : List Entry). reverse l) is ∙ reverse_push journal e) in
+      record { within = subst (IsWithin front) turned (within_more front (reverse journal) e within); reached = subst (IsReached script front) turned reached }
+
+  pub falls : (event : Event) → IsOneMore journal after event → left script (reverse after) < left script (reverse journal)
+  falls event more = subst (λ l. left script (reverse l) < left script (reverse journal)) (sym more.1)
+      (left_after script served.accepted journal more.0 (subst (IsRun script) more.1 driven.run))
+
+  pub front_delivered : (before next : Front) (entry place : ℕ) → IsReached script before (reverse journal) → IsWithin next (reverse journal)
+      → Some (entry, place) ≡ place_of_first (ahead before (reverse journal)) → ahead next (reverse journal) ≡ drop 1 (ahead before (reverse journal))
+      → IsOneMore journal after (Deliver entry place) → IsFront script next after
+  front_delivered before next entry place reached within first rest more = by (ahead before (reverse journal)) refl first rest
+    where
+      by : (ps : List Parcel) → ahead before (reverse journal) ≡ ps → Some (entry, place) ≡ place_of_first ps → ahead next (reverse journal) ≡ drop 1 ps → IsFront script next after
+      by [] e f r = absurd cc
+      by (p ∷ ps) e f r =
+          let pair : (entry, place) ≡ (p.entry, p.place) = same_pair f in
+          let event : more.0.event ≡ Deliver p.entry p.place = more.2 ∙ ap (λ (q : ℕ × ℕ). Deliver q.0 q.1) pair in
+          moved_front more.0 next more.1 within
+          (reached_delivered script served.no_plan (reverse journal) more.0 (free_after more.0 more.1) before next p reached within
+          (e ∙ ap (λ (l : List Parcel). p ∷ l) (sym r)) event)
+
+  pub front_own : (before next : Front) (inner : Inner) → IsReached script before (reverse journal) → IsWithin next (reverse journal)
+      → ahead before (reverse journal) ≡ [] → ahead next (reverse journal) ≡ drop 1 (ahead before (reverse journal))
+      → IsOneMore journal after (OfItself inner) → IsFront script next after
+  front_own before next inner reached within none rest more =
+      moved_front more.0 next more.1 within
+      (reached_own script served.no_plan (reverse journal) more.0 (free_after more.0 more.1) before next inner reached within none
+      (rest ∙ ap (λ (l : List Parcel). drop 1 l) none) more.2)
+
+-- the first output ahead comes next
+
+pub comes_next : (script : Script) (journal : List Entry) (front : Front) (entry place : ℕ) → IsReached script front (reverse journal)
+    → Some (entry, place) ≡ place_of_first (ahead front (reverse journal)) → ComesNext script journal entry place
+comes_next script journal front entry place reached first = by (ahead front (reverse journal)) refl first
+  where
+    by : (ps : List Parcel) → ahead front (reverse journal) ≡ ps → Some (entry, place) ≡ place_of_first ps → ComesNext script journal entry place
+    by [] e f = absurd cc
+    by (p ∷ ps) e f =
+        let pair : (entry, place) ≡ (p.entry, p.place) = same_pair f in
+        let entries : entry ≡ p.entry = ap (λ (q : ℕ × ℕ). q.0) pair in
+        let places : place ≡ p.place = ap (λ (q : ℕ × ℕ). q.1) pair in
+        let same : p ≡ parcel entry place p.message = (λ i. record { entry = sym entries i; place = sym places i; message = p.message }) in
+        record { front = front; reached = reached; message = p.message; rest = ps; is = e ∙ ap (λ (q : Parcel). q ∷ ps) same }
+
+pub none_ahead : (ps : List Parcel) → None ≡ place_of_first ps → ps ≡ []
+none_ahead [] e = refl
+none_ahead (p ∷ ps) e = absurd cc
+
+-- before the first entry
+
+pub none_driven : (script : Script) (journal : List Entry) → journal ≡ [] → IsDriven script journal
+none_driven script journal e = subst (IsDriven script) (sym e) (record { run = run_none script; picked = picked_run_none script })
+
+pub first_front : (script : Script) (journal : List Entry) (front : Front) → journal ≡ [] → IsWithin front [] → IsFront script front journal
+first_front script journal front e within = subst (IsFront script front) (sym e) (record { within = within; reached = λ p h. absurd h })

@@ -1,5 +1,5 @@
 -- How far a driver has delivered what was sent. Journals stand the newest entry first.
-use Rattle.std.specs.Prelude.{ℕ, suc, ◌≡◌, ◌≤◌, ◌==◌, ◌&&◌, ◌||◌, not, nat_lt, Bool, List, length, filter}
+use Rattle.std.specs.Prelude.{ℕ, suc, ◌≡◌, ◌≤◌, ◌==◌, ◌&&◌, ◌||◌, not, nat_lt, Bool, List, [], ◌∷◌, Option, Some, None, length, filter}
 use Rattle.tp_base.specs.Lists.{IsIn}
 use Rattle.tp_driver.specs.declared.front.Front.{Front}
 use Rattle.tp_rules.specs.Journal.{sent}
@@ -18,6 +18,11 @@ is_behind front p = nat_lt p.entry front.entry || ((p.entry == front.entry) && n
 -- the outputs from the front on
 unfoldable pub ahead : Front → List Entry → List Parcel
 ahead front older = filter (λ p. not (is_behind front p)) (sent older)
+
+-- where the first of some outputs stands: its entry and its place
+abbrev pub place_of_first : List Parcel → Option (ℕ × ℕ)
+place_of_first [] = None
+place_of_first (p ∷ ps) = Some (p.entry, p.place)
 
 -- the front is in the journal, or right behind its last entry
 pub record IsWithin (front : Front) (older : List Entry) : Type 0 where

@@ -1,0 +1,13 @@
+use Rattle.std.proofs.Common.{◌≡◌, List, [], take}
+use Rattle.std.specs.Prelude.{filter_map}
+use Rattle.tp_driver.proofs.steps.next_own.Given as goal
+use Rattle.tp_driver.specs.Cast.{AllStand}
+use Rattle.tp_driver.specs.Driving.{own_step}
+use Rattle.tp_rules.specs.Pending.{actors_of}
+use Rattle.tp_rules.specs.declared.event.Entry.{Entry}
+use Rattle.tp_script.specs.declared.script.Script.{Script}
+
+-- none of the actors so far has a step
+abbrev pub invariant-loop-actor : goal.invariant-loop-actor
+invariant-loop-actor g l = (script : Script) (journal : List Entry) → AllStand g.A.Actor.identity_of g.A.Actor.is_spent g.A.Actor.stands script l.actors journal
+    → filter_map (own_step script journal) (take l.actor-index (actors_of script)) ≡ []
