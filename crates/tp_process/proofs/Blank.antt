@@ -1,12 +1,11 @@
 -- What the blank sheet says.
-use Rattle.std.proofs.Common.{◌≡◌, ℕ, zero, suc, Bool, true, false, Option, None, replicate, refl, sym, ap, ◌∙◌}
-use Rattle.std.specs.Prelude.{slice_get, cond, ◌&&◌}
+use Rattle.std.proofs.Common.{◌≡◌, ℕ, zero, suc, Bool, true, false, Option, None, replicate, refl}
+use Rattle.std.specs.Prelude.{slice_get, ◌&&◌}
 use Rattle.tp_base.specs.declared.names.Site.{Site}
-use Rattle.tp_quorum.specs.declared.choice.FastChoice.{FastChoice}
 use Rattle.tp_rules.specs.Addresses.{is_between}
 use Rattle.tp_rules.specs.Sheet.{blank, is_fresh}
 use Rattle.tp_rules.specs.Tables.{kept_at, flat}
-use Rattle.tp_sheet.specs.SiteSheet.{SiteSheet, blank_at, takes_acknowledgement, choice_by, with_acknowledgement, final_of}
+use Rattle.tp_sheet.specs.SiteSheet.{blank_at, takes_acknowledgement, choice_by, with_acknowledgement, final_of}
 use Rattle.tp_topology.specs.Shape.{Shape}
 
 empty_place : (n i : ℕ) → flat (slice_get (replicate n (let none : Option ℕ = None in none)) i) ≡ None

@@ -1,21 +1,74 @@
 -- What it is for a process to be where the rules leave it.
-use Rattle.std.specs.Prelude.{◌≡◌, ◌≤◌, List}
+use Rattle.std.specs.Prelude.{◌≡◌, ◌≤◌, ◌<◌, ◌-◌, ◌==◌, ◌&&◌, ℕ, nat_lt, Bool, List, [], ◌∷◌, Option, Some, None}
+use Rattle.indexmap.specs.IndexMap.{IndexMap}
 use Rattle.tp_base.specs.Lists.{Each}
+use Rattle.tp_base.specs.declared.names.ActorName.TheVariants.{Process as OfProcess, Executor as OfExecutor}
 use Rattle.tp_base.specs.declared.names.CommandId.{CommandId}
+use Rattle.tp_base.specs.declared.names.Pair.{Pair}
+use Rattle.tp_base.specs.declared.names.Site.{Site}
+use Rattle.tp_ops.specs.declared.command.Command.{Command}
 use Rattle.tp_process.specs.Sheets.{sheet_at}
 use Rattle.tp_process.specs.declared.process.Process.{Process}
-use Rattle.tp_rules.specs.Acts.{Act}
-use Rattle.tp_rules.specs.Process.{ProcessState, state_after, untold}
-use Rattle.tp_rules.specs.Sheet.{ring_setting}
+use Rattle.tp_rules.specs.Acts.{Act, Identity, ProcessAt}
+use Rattle.tp_rules.specs.Addresses.{message}
+use Rattle.tp_rules.specs.Process.{LIMIT, ProcessState, state_after, untold}
+use Rattle.tp_rules.specs.Sheet.{Sheet, is_fresh, ring_setting}
 use Rattle.tp_sheet.specs.SiteSheet.{SiteSheet}
+use Rattle.tp_topology.specs.Shape.{Shape}
+use Rattle.tp_wire.specs.declared.message.Body.TheVariants.{MCommitted}
+use Rattle.tp_wire.specs.declared.message.Message.{Message}
+
+abbrev pub identity : Process → Identity
+identity p = ProcessAt p.place.topology p.place.site
+
+-- each stamp of a table is below the limit
+abbrev pub AreLow : List (Option ℕ) → Type 0
+AreLow [] = Unit {0}
+AreLow (None ∷ table) = AreLow table
+AreLow (Some t ∷ table) = (t < LIMIT) × AreLow table
+
+pub record IsLow (sheet : Sheet) : Type 0 where
+  pub known : AreLow sheet.known
+  pub acknowledged : AreLow sheet.acknowledged
+
+abbrev pub site_sheet : Shape → Site → Sheet → SiteSheet
+site_sheet shape site sheet = record { shape = shape; site = site; sheet = sheet }
+
+-- a clock, what is told, the promises not told yet and the sheets say what a state says, and no
+-- stamp of the state has come to the limit
+pub record Agrees {S : Type 0} (shape : Shape) (site : Site) (clock told : ℕ) (pairs : List Pair) (sheets : IndexMap CommandId SiteSheet S) (s : ProcessState) : Type 0 where
+  pub clock_is : clock ≡ s.clock
+  pub told_is : told ≡ s.told
+  pub untold_is : pairs ≡ untold s
+  pub attached : Each (λ pair. pair.stamp.0 ≤ s.clock) s.attached
+  pub told_low : s.told ≤ s.clock
+  pub room : s.clock < LIMIT
+  pub sheets_are : (id : CommandId) → sheet_at shape site sheets id ≡ site_sheet shape site (s.sheets id)
+  pub low : (id : CommandId) → IsLow (s.sheets id)
 
 -- the process has what the state says
-pub record IsState (p : Process) (s : ProcessState) : Type 0 where
-  pub clock : p.clock ≡ s.clock
-  pub told : p.told ≡ s.told
-  pub untold : p.untold ≡ untold s
-  pub attached : Each (λ pair. pair.stamp.0 ≤ s.clock) s.attached
-  pub sheets : (id : CommandId) → sheet_at p.place.topology p.place.site p.sheets id ≡ record { shape = p.place.topology; site = p.place.site; sheet = s.sheets id }
+abbrev pub IsState : Process → ProcessState → Type 0
+IsState p s = Agrees p.place.topology p.place.site p.clock p.told p.untold p.sheets s
 
 abbrev pub Stands : Process → List Act → Type 0
 Stands p acts = IsState p (state_after (ring_setting p.place.topology) p.place.site acts)
+
+-- what the process keeps of a command
+abbrev pub kept_of : Process → CommandId → SiteSheet
+kept_of p id = sheet_at p.place.topology p.place.site p.sheets id
+
+-- whether the process proposes for a command, by the sheet and the clock
+abbrev pub takes_proposal : Process → Command → Bool
+takes_proposal p c = is_fresh (kept_of p c.id).site.partition.0 (kept_of p c.id).sheet && nat_lt p.clock (LIMIT - 1)
+
+abbrev pub takes_submission : Process → Command → Bool
+takes_submission p c = (c.home.0 == p.place.site.rank.0) && takes_proposal p c
+
+-- the final stamp, told to the site's executor
+abbrev pub committed : Site → Option Command → ℕ → List Message
+committed site None t = []
+committed site (Some c) t = message (OfProcess site) (OfExecutor site) (MCommitted c (record { 0 = t })) ∷ []
+
+-- with all promises told
+abbrev pub all_told : ProcessState → ProcessState
+all_told s = record { clock = s.clock; told = s.clock; attached = s.attached; sheets = s.sheets }

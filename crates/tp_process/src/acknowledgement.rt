@@ -1,3 +1,10 @@
+ghost use Rattle.std.specs.Prelude.{◌≡◌, ◌<◌, ◌++◌, true, IfOk, OnOk};
+ghost use Rattle.tp_process.specs.State.{IsState, identity, kept_of};
+ghost use Rattle.tp_rules.specs.Addresses.{is_between, is_name_of, site};
+ghost use Rattle.tp_rules.specs.Process.{LIMIT, ProcessState, commits, decided, on_propose_ack, put_to_vote, with_sheet};
+ghost use Rattle.tp_rules.specs.Sheet.{Sheet, ring_setting};
+ghost use Rattle.tp_wire.specs.Ranges.{IsProcess};
+
 use crate::addresses::{other_processes, processes_of, send_each};
 use crate::process::Process;
 use crate::sheets::{acknowledge, command_at};
@@ -13,7 +20,12 @@ impl Process {
         from: ActorName,
         id: CommandId,
         stamp: Stamp,
-    ) -> Result<Outputs, NoMemory> {
+    ) -> Result<Outputs, NoMemory>
+        requires { is_name_of self.old.place.topology from ≡ true }
+        ensures identity { identity self.new ≡ identity self.old }
+        ensures outputs { IfOk result (λ outputs. (s : ProcessState) → IsState self.old s → IsProcess from → stamp.0 < LIMIT → outputs ≡ (on_propose_ack (ring_setting self.old.place.topology) self.old.place.site from id stamp.0 s).1) }
+        ensures state { OnOk result ((s : ProcessState) → IsState self.old s → IsProcess from → stamp.0 < LIMIT → IsState self.new (on_propose_ack (ring_setting self.old.place.topology) self.old.place.site from id stamp.0 s).0) }
+    {
         match from {
             ActorName::Process(site) => self.count_proposal(site.rank, id, stamp),
             ActorName::Executor(_) | ActorName::Session(_) => Ok(self.nothing()),
@@ -27,7 +39,11 @@ impl Process {
         rank: Rank,
         id: CommandId,
         stamp: Stamp,
-    ) -> Result<Outputs, NoMemory> {
+    ) -> Result<Outputs, NoMemory>
+        ensures identity { identity self.new ≡ identity self.old }
+        ensures outputs { IfOk result (λ outputs. (s : ProcessState) → IsState self.old s → is_between rank.0 self.old.place.topology.replicas ≡ true → stamp.0 < LIMIT → outputs ≡ (on_propose_ack (ring_setting self.old.place.topology) self.old.place.site (ActorName.Process (site 0 rank.0)) id stamp.0 s).1) }
+        ensures state { OnOk result ((s : ProcessState) → IsState self.old s → is_between rank.0 self.old.place.topology.replicas ≡ true → stamp.0 < LIMIT → IsState self.new (on_propose_ack (ring_setting self.old.place.topology) self.old.place.site (ActorName.Process (site 0 rank.0)) id stamp.0 s).0) }
+    {
         match acknowledge(&mut self.sheets, &self.place, id, rank, stamp) {
             Some(FastChoice::Fast(top)) => self.decide(id, top),
             Some(FastChoice::Slow(top)) => self.put_to_vote(id, top),
@@ -36,7 +52,11 @@ impl Process {
     }
 
     /// Tells the partition's stamp to all other processes of the command, and learns it here.
-    fn decide(&mut self, id: CommandId, stamp: Stamp) -> Result<Outputs, NoMemory> {
+    fn decide(&mut self, id: CommandId, stamp: Stamp) -> Result<Outputs, NoMemory>
+        ensures identity { identity self.new ≡ identity self.old }
+        ensures outputs { IfOk result (λ outputs. (s : ProcessState) → (sheet : Sheet) → IsState self.old (with_sheet id sheet s) → stamp.0 < LIMIT → outputs ≡ (decided self.old.place.topology self.old.place.site id stamp.0 sheet s).1) }
+        ensures state { OnOk result ((s : ProcessState) → (sheet : Sheet) → IsState self.old (with_sheet id sheet s) → stamp.0 < LIMIT → IsState self.new (decided self.old.place.topology self.old.place.site id stamp.0 sheet s).0) }
+    {
         let mut outputs = Sequence::new(self.alloc);
         self.tell_commit(&mut outputs, id, stamp)?;
         let partition = self.place.partition();
@@ -44,12 +64,15 @@ impl Process {
         Ok(outputs)
     }
 
+    #[tactic(auto, unfolding(tp_rules::specs::Process::commits))]
     fn tell_commit(
         &self,
         outputs: &mut Outputs,
         id: CommandId,
         stamp: Stamp,
-    ) -> Result<(), NoMemory> {
+    ) -> Result<(), NoMemory>
+        ensures { OnOk result (outputs.new ≡ outputs.old ++ commits self.now.place.topology self.now.place.site (kept_of self.now id).sheet.command stamp.0) }
+    {
         match command_at(&self.sheets, &self.place, id) {
             Some(command) => {
                 let names = other_processes(self.alloc, &self.place, command)?;
@@ -65,7 +88,9 @@ impl Process {
     }
 
     /// Puts a stamp to the vote of all ranks, at the own rank as ballot.
-    fn put_to_vote(&self, id: CommandId, stamp: Stamp) -> Result<Outputs, NoMemory> {
+    fn put_to_vote(&self, id: CommandId, stamp: Stamp) -> Result<Outputs, NoMemory>
+        ensures { IfOk result (λ outputs. outputs ≡ put_to_vote self.now.place.topology self.now.place.site self.now.place.site.rank.0 stamp.0 (kept_of self.now id).sheet.command) }
+    {
         let mut outputs = Sequence::new(self.alloc);
         if let Some(command) = command_at(&self.sheets, &self.place, id) {
             let place = &self.place;

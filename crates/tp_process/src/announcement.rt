@@ -1,3 +1,7 @@
+ghost use Rattle.std.specs.Prelude.{◌≡◌, IfOk, OnOk};
+ghost use Rattle.tp_process.specs.State.{IsState, all_told, identity};
+ghost use Rattle.tp_rules.specs.Process.{ProcessState, announced, on_announce};
+
 use crate::addresses::{executors_of, send_each};
 use crate::process::Process;
 use std::mem;
@@ -7,19 +11,33 @@ use tp_wire::Body;
 
 impl Process {
     /// Announces the promises that were not told yet to all executors of the partition.
-    pub(crate) fn on_announce(&mut self) -> Result<Outputs, NoMemory> {
-        let mut outputs = Sequence::new(self.alloc);
+    pub(crate) fn on_announce(&mut self) -> Result<Outputs, NoMemory>
+        ensures identity { identity self.new ≡ identity self.old }
+        ensures outputs { IfOk result (λ outputs. (s : ProcessState) → IsState self.old s → outputs ≡ (on_announce self.old.place.topology self.old.place.site s).1) }
+        ensures state { OnOk result ((s : ProcessState) → IsState self.old s → IsState self.new (on_announce self.old.place.topology self.old.place.site s).0) }
+    {
         if self.told < self.clock {
-            let place = self.place;
-            let names = executors_of(self.alloc, &place.topology, place.site.partition)?;
-            let body = Body::MPromises {
-                lo: self.told,
-                hi: self.clock,
-                pairs: mem::replace(&mut self.untold, Sequence::new(self.alloc)),
-            };
-            self.told = self.clock;
-            send_each(&mut outputs, place.name(), names.as_slice(), &body)?;
+            return self.announce();
         }
+        Ok(self.nothing())
+    }
+
+    #[tactic(auto, unfolding(tp_rules::specs::Process::announced))]
+    fn announce(&mut self) -> Result<Outputs, NoMemory>
+        ensures identity { identity self.new ≡ identity self.old }
+        ensures outputs { IfOk result (λ outputs. (s : ProcessState) → IsState self.old s → outputs ≡ announced self.old.place.topology self.old.place.site s) }
+        ensures state { OnOk result ((s : ProcessState) → IsState self.old s → IsState self.new (all_told s)) }
+    {
+        let mut outputs = self.nothing();
+        let place = self.place;
+        let names = executors_of(self.alloc, &place.topology, place.site.partition)?;
+        let body = Body::MPromises {
+            lo: self.told,
+            hi: self.clock,
+            pairs: mem::replace(&mut self.untold, Sequence::new(self.alloc)),
+        };
+        self.told = self.clock;
+        send_each(&mut outputs, place.name(), names.as_slice(), &body)?;
         Ok(outputs)
     }
 }

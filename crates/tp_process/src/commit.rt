@@ -1,9 +1,12 @@
-ghost use Rattle.std.specs.Prelude.{◌≡◌, ◌≤◌, true};
+ghost use Rattle.std.specs.Prelude.{◌≡◌, ◌≤◌, ◌<◌, ◌++◌, true, IfOk, OnOk};
+ghost use Rattle.tp_process.specs.State.{IsState, committed, identity, kept_of};
 ghost use Rattle.tp_rules.specs.Addresses.{is_between};
+ghost use Rattle.tp_rules.specs.Process.{LIMIT, ProcessState, learned, on_commit, with_sheet};
+ghost use Rattle.tp_rules.specs.Sheet.{Sheet, ring_setting};
 
 use crate::process::Process;
 use crate::sheets::{command_at, keep, learn};
-use tp_base::{ActorName, CommandId, Duplicate, NoMemory, PartitionId, Sequence, Stamp};
+use tp_base::{ActorName, CommandId, Duplicate, NoMemory, PartitionId, Stamp};
 use tp_ops::Command;
 use tp_rules::Outputs;
 use tp_sheet::accesses;
@@ -18,12 +21,16 @@ impl Process {
         stamp: Stamp,
     ) -> Result<Outputs, NoMemory>
         requires { is_between partition.0 self.old.place.topology.partitions ≡ true }
+        ensures identity { identity self.new ≡ identity self.old }
+        ensures outputs { IfOk result (λ outputs. (s : ProcessState) → IsState self.old s → stamp.0 < LIMIT → outputs ≡ (on_commit (ring_setting self.old.place.topology) self.old.place.site command.now partition.0 stamp.0 s).1) }
+        ensures state { OnOk result ((s : ProcessState) → IsState self.old s → stamp.0 < LIMIT → IsState self.new (on_commit (ring_setting self.old.place.topology) self.old.place.site command.now partition.0 stamp.0 s).0) }
     {
-        let mut outputs = Sequence::new(self.alloc);
-        if accesses(command, self.place.topology.partitions(), partition) {
-            keep(&mut self.sheets, &self.place, command.copy()?)?;
-            self.learn(&mut outputs, command.id, partition, stamp)?;
+        if !accesses(command, self.place.topology.partitions(), partition) {
+            return Ok(self.nothing());
         }
+        let mut outputs = self.nothing();
+        keep(&mut self.sheets, &self.place, command.copy()?)?;
+        self.learn(&mut outputs, command.id, partition, stamp)?;
         Ok(outputs)
     }
 
@@ -37,11 +44,15 @@ impl Process {
     ) -> Result<(), NoMemory>
         requires some { 1 ≤ partition.0 }
         requires few { partition.0 ≤ 4 }
+        ensures identity { identity self.new ≡ identity self.old }
+        ensures outputs { OnOk result ((s : ProcessState) → (sheet : Sheet) → IsState self.old (with_sheet id sheet s) → stamp.0 < LIMIT → outputs.new ≡ outputs.old ++ (learned self.old.place.topology self.old.place.site id partition.0 stamp.0 sheet s).1) }
+        ensures state { OnOk result ((s : ProcessState) → (sheet : Sheet) → IsState self.old (with_sheet id sheet s) → stamp.0 < LIMIT → IsState self.new (learned self.old.place.topology self.old.place.site id partition.0 stamp.0 sheet s).0) }
     {
         match learn(&mut self.sheets, &self.place, id, partition, stamp)? {
             Some(last) => {
+                self.tell_executor(outputs, id, last)?;
                 self.bump(last);
-                self.tell_executor(outputs, id, last)
+                Ok(())
             }
             None => Ok(()),
         }
@@ -52,7 +63,9 @@ impl Process {
         outputs: &mut Outputs,
         id: CommandId,
         stamp: Stamp,
-    ) -> Result<(), NoMemory> {
+    ) -> Result<(), NoMemory>
+        ensures { OnOk result (outputs.new ≡ outputs.old ++ committed self.now.place.site (kept_of self.now id).sheet.command stamp.0) }
+    {
         match command_at(&self.sheets, &self.place, id) {
             Some(command) => outputs.add(Message {
                 from: self.place.name(),

@@ -1,4 +1,11 @@
+ghost use Rattle.std.specs.Prelude.{◌≡◌, ◌<◌, ◌-◌, ◌∷◌, [], false, nat_lt, List, IfOk, OnOk};
+ghost use Rattle.std.specs.Option.{option_map};
+ghost use Rattle.tp_base.specs.Promises.{proposed as proposed_stamp};
+ghost use Rattle.tp_rules.specs.Acts.{Act, ProcessAt};
+ghost use Rattle.tp_rules.specs.Process.{LIMIT as the_limit, ProcessState, bumped, on_inner, on_message, proposing, state_after, with_sheet};
+ghost use Rattle.tp_rules.specs.Sheet.{Sheet, final_stamp as final_stamp_in, ring_setting};
 ghost use Rattle.tp_sheet.specs.SiteSheet.{IsSiteOf};
+ghost use Rattle.tp_wire.specs.Ranges.{IsInRange};
 
 use crate::place::Place;
 use crate::sheets::{Sheets, final_stamp};
@@ -25,9 +32,14 @@ pub struct Process {
 }
 
 impl Process {
+    ghost use Rattle.tp_process.specs.State.{IsState, Stands, identity};
+
     /// A process that has taken no message. It takes no memory.
     pub fn new(alloc: Global, topology: &Topology, site: Site) -> Process
         requires { IsSiteOf topology.now site }
+        ensures identity { identity result ≡ ProcessAt topology.now site }
+        ensures unspent { result.spent ≡ false }
+        ensures stands { Stands result [] }
     {
         Process {
             alloc,
@@ -41,43 +53,64 @@ impl Process {
     }
 
     /// The greatest number that is promised.
-    pub fn clock(&self) -> u64 {
+    pub fn clock(&self) -> u64
+        ensures { (acts : List Act) → Stands self.now acts → result ≡ (state_after (ring_setting self.now.place.topology) self.now.place.site acts).clock }
+    {
         self.clock
     }
 
     /// The command's final stamp, where the stamps of all its partitions are known.
-    pub fn stamp(&self, id: CommandId) -> Option<Stamp> {
+    pub fn stamp(&self, id: CommandId) -> Option<Stamp>
+        ensures { (acts : List Act) → Stands self.now acts → let sheet = (state_after (ring_setting self.now.place.topology) self.now.place.site acts).sheets id in option_map (λ t. t.0) result ≡ final_stamp_in self.now.place.topology sheet sheet.command }
+    {
         final_stamp(&self.sheets, &self.place, id)
     }
 
     /// What a step sends that changes nothing.
-    pub(crate) fn nothing(&self) -> Outputs {
+    pub(crate) fn nothing(&self) -> Outputs
+        ensures { result ≡ [] }
+    {
         Sequence::new(self.alloc)
     }
 
     /// Whether a proposal's stamp would be below the limit.
-    pub(crate) fn has_room(&self) -> bool {
+    pub(crate) fn has_room(&self) -> bool
+        ensures { result ≡ nat_lt self.now.clock (the_limit - 1) }
+    {
         self.clock < LIMIT - 1
     }
 
     /// The stamp of a proposal of at least the floor.
-    pub(crate) fn next_stamp(&self, floor: Stamp) -> Stamp {
+    pub(crate) fn next_stamp(&self, floor: Stamp) -> Stamp
+        requires { self.now.clock < the_limit }
+        ensures { result.0 ≡ proposed_stamp floor.0 self.now.clock }
+    {
         Stamp(floor.0.max(self.clock.saturating_add(1)))
     }
 
     /// Promises a stamp to a command, and the numbers between the clock and it to none.
-    pub(crate) fn promise(&mut self, id: CommandId, stamp: Stamp) -> Result<(), NoMemory> {
+    pub(crate) fn promise(&mut self, id: CommandId, stamp: Stamp) -> Result<(), NoMemory>
+        ensures identity { identity self.new ≡ identity self.old }
+        ensures state { OnOk result ((s : ProcessState) → (sheet : Sheet) → IsState self.old (with_sheet id sheet s) → s.clock < stamp.0 → stamp.0 < the_limit → IsState self.new (proposing id stamp.0 sheet s)) }
+    {
         self.untold.add(Pair { id, stamp })?;
         self.clock = stamp.0;
         Ok(())
     }
 
     /// Promises to none the numbers above the clock up to a stamp.
-    pub(crate) fn bump(&mut self, stamp: Stamp) {
+    pub(crate) fn bump(&mut self, stamp: Stamp)
+        ensures identity { identity self.new ≡ identity self.old }
+        ensures state { (s : ProcessState) → IsState self.old s → stamp.0 < the_limit → IsState self.new (bumped stamp.0 s) }
+    {
         self.clock = stamp.0.max(self.clock);
     }
 
-    fn take(&mut self, message: &Message) -> Result<Outputs, NoMemory> {
+    fn take(&mut self, message: &Message) -> Result<Outputs, NoMemory>
+        ensures identity { identity self.new ≡ identity self.old }
+        ensures outputs { IfOk result (λ outputs. (s : ProcessState) → IsState self.old s → IsInRange message.now → outputs ≡ (on_message (ring_setting self.old.place.topology) self.old.place.site message.now s).1) }
+        ensures state { OnOk result ((s : ProcessState) → IsState self.old s → IsInRange message.now → IsState self.new (on_message (ring_setting self.old.place.topology) self.old.place.site message.now s).0) }
+    {
         if !self.place.takes(message) {
             return Ok(self.nothing());
         }
@@ -95,7 +128,11 @@ impl Process {
         }
     }
 
-    fn act(&mut self, inner: Inner) -> Result<Outputs, NoMemory> {
+    fn act(&mut self, inner: Inner) -> Result<Outputs, NoMemory>
+        ensures identity { identity self.new ≡ identity self.old }
+        ensures outputs { IfOk result (λ outputs. (s : ProcessState) → IsState self.old s → outputs ≡ (on_inner (ring_setting self.old.place.topology) self.old.place.site inner s).1) }
+        ensures state { OnOk result ((s : ProcessState) → IsState self.old s → IsState self.new (on_inner (ring_setting self.old.place.topology) self.old.place.site inner s).0) }
+    {
         match inner {
             Inner::Announce => self.on_announce(),
             _ => Ok(self.nothing()),
@@ -104,10 +141,12 @@ impl Process {
 }
 
 impl Actor for Process {
-    ghost use Rattle.tp_process.specs.State.{Stands};
-    ghost use Rattle.tp_rules.specs.Acts.{ProcessAt};
+    ghost use Rattle.std.specs.Prelude.{is_err};
+    ghost use Rattle.tp_process.specs.State.{Stands, identity};
+    ghost use Rattle.tp_rules.specs.Acts.{Did, Took};
+    ghost use Rattle.tp_rules.specs.Rules.{enabled, outputs_of};
 
-    ghost identity_of = { λ p. ProcessAt p.place.topology p.place.site };
+    ghost identity_of = { identity };
 
     ghost is_spent = { λ p. p.spent };
 
@@ -121,19 +160,31 @@ impl Actor for Process {
         self.spent
     }
 
-    fn deliver(&mut self, message: &Message) -> Result<Outputs, NoMemory> {
+    fn deliver(&mut self, message: &Message) -> Result<Outputs, NoMemory>
+        ensures identity { identity self.new ≡ identity self.old }
+        ensures spent { self.new.spent ≡ is_err result }
+        ensures outputs { IfOk result (λ outputs. (acts : List Act) → Stands self.old acts → IsInRange message.now → outputs ≡ outputs_of (identity self.old) acts (Took message.now)) }
+        ensures stands { OnOk result ((acts : List Act) → Stands self.old acts → IsInRange message.now → Stands self.new (Took message.now ∷ acts)) }
+    {
         let outcome = self.take(message);
         self.spent = outcome.is_err();
         outcome
     }
 
-    fn fire(&mut self, inner: Inner) -> Result<Outputs, NoMemory> {
+    fn fire(&mut self, inner: Inner) -> Result<Outputs, NoMemory>
+        ensures identity { identity self.new ≡ identity self.old }
+        ensures spent { self.new.spent ≡ is_err result }
+        ensures outputs { IfOk result (λ outputs. (acts : List Act) → Stands self.old acts → outputs ≡ outputs_of (identity self.old) acts (Did inner)) }
+        ensures stands { OnOk result ((acts : List Act) → Stands self.old acts → Stands self.new (Did inner ∷ acts)) }
+    {
         let outcome = self.act(inner);
         self.spent = outcome.is_err();
         outcome
     }
 
-    fn next_inner(&self) -> Option<Inner> {
+    fn next_inner(&self) -> Option<Inner>
+        ensures { (acts : List Act) → Stands self.now acts → result ≡ enabled (identity self.now) acts }
+    {
         if self.told < self.clock {
             Some(Inner::Announce)
         } else {

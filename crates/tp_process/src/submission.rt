@@ -1,6 +1,8 @@
-ghost use Rattle.std.specs.Prelude.{◌≡◌, ◌≤◌, ◌++◌, true, cond, IfOk, OnOk};
-ghost use Rattle.tp_rules.specs.Process.{proposals};
-ghost use Rattle.tp_rules.specs.Sheet.{ring_setting};
+ghost use Rattle.std.specs.Prelude.{◌≡◌, ◌≤◌, ◌<◌, ◌++◌, ◌∷◌, [], true, cond, IfOk, OnOk};
+ghost use Rattle.tp_process.specs.State.{IsState, identity, kept_of, takes_proposal, takes_submission};
+ghost use Rattle.tp_rules.specs.Addresses.{message};
+ghost use Rattle.tp_rules.specs.Process.{LIMIT, ProcessState, bumps, on_payload, on_propose, on_submit, proposals, with_room};
+ghost use Rattle.tp_rules.specs.Sheet.{command_or as kept_or, ring_setting};
 ghost use Rattle.tp_topology.specs.Shape.{in_ring};
 
 use crate::addresses::{counterparts, send_each};
@@ -14,14 +16,18 @@ use tp_wire::{Body, Message};
 
 impl Process {
     /// A command is submitted here: the home proposes, and asks its fast quorum for proposals.
-    pub(crate) fn on_submit(&mut self, command: &Command) -> Result<Outputs, NoMemory> {
+    pub(crate) fn on_submit(&mut self, command: &Command) -> Result<Outputs, NoMemory>
+        ensures identity { identity self.new ≡ identity self.old }
+        ensures outputs { IfOk result (λ outputs. (s : ProcessState) → IsState self.old s → outputs ≡ (with_room s (on_submit (ring_setting self.old.place.topology) self.old.place.site command.now s)).1) }
+        ensures state { OnOk result ((s : ProcessState) → IsState self.old s → IsState self.new (with_room s (on_submit (ring_setting self.old.place.topology) self.old.place.site command.now s)).0) }
+    {
         if !self.takes_submission(command) {
             return Ok(self.nothing());
         }
         let stamp = self.next_stamp(Stamp(0));
         let outputs = self.submission(command, stamp)?;
-        self.promise(command.id, stamp)?;
         submit(&mut self.sheets, &self.place, command.copy()?, stamp)?;
+        self.promise(command.id, stamp)?;
         Ok(outputs)
     }
 
@@ -31,36 +37,48 @@ impl Process {
         from: ActorName,
         command: &Command,
         floor: Stamp,
-    ) -> Result<Outputs, NoMemory> {
+    ) -> Result<Outputs, NoMemory>
+        ensures identity { identity self.new ≡ identity self.old }
+        ensures outputs { IfOk result (λ outputs. (s : ProcessState) → IsState self.old s → floor.0 < LIMIT → outputs ≡ (with_room s (on_propose (ring_setting self.old.place.topology) self.old.place.site from command.now floor.0 s)).1) }
+        ensures state { OnOk result ((s : ProcessState) → IsState self.old s → floor.0 < LIMIT → IsState self.new (with_room s (on_propose (ring_setting self.old.place.topology) self.old.place.site from command.now floor.0 s)).0) }
+    {
         if !self.takes_proposal(command) {
             return Ok(self.nothing());
         }
         let stamp = self.next_stamp(floor);
         let outputs = self.proposal(from, command, stamp)?;
-        self.promise(command.id, stamp)?;
         propose(&mut self.sheets, &self.place, command.copy()?, stamp)?;
+        self.promise(command.id, stamp)?;
         Ok(outputs)
     }
 
     /// The home tells a command to those whom it asks for no proposal.
-    pub(crate) fn on_payload(&mut self, command: &Command) -> Result<Outputs, NoMemory> {
+    pub(crate) fn on_payload(&mut self, command: &Command) -> Result<Outputs, NoMemory>
+        ensures identity { identity self.new ≡ identity self.old }
+        ensures outputs { IfOk result (λ outputs. outputs ≡ []) }
+        ensures state { OnOk result ((s : ProcessState) → IsState self.old s → IsState self.new (on_payload command.now s).0) }
+    {
         keep(&mut self.sheets, &self.place, command.copy()?)?;
         Ok(self.nothing())
     }
 
     fn takes_submission(&self, command: &Command) -> bool
+        ensures value { result ≡ takes_submission self.now command.now }
         ensures home { result ≡ true → (1 ≤ command.now.home.0) × (command.now.home.0 ≤ self.now.place.topology.replicas) }
     {
         command.home == self.place.rank() && self.takes_proposal(command)
     }
 
-    fn takes_proposal(&self, command: &Command) -> bool {
+    fn takes_proposal(&self, command: &Command) -> bool
+        ensures { result ≡ takes_proposal self.now command.now }
+    {
         is_fresh(&self.sheets, &self.place, command.id) && self.has_room()
     }
 
     /// What the home sends of a command that is submitted.
     fn submission(&self, command: &Command, stamp: Stamp) -> Result<Outputs, NoMemory>
         requires { (1 ≤ command.now.home.0) × (command.now.home.0 ≤ self.now.place.topology.replicas) }
+        ensures { IfOk result (λ outputs. outputs ≡ proposals (ring_setting self.now.place.topology) self.now.place.site command.now stamp.0 ++ bumps self.now.place.topology self.now.place.site (kept_or command.now (kept_of self.now command.now.id).sheet) stamp.0) }
     {
         let mut outputs = self.nothing();
         ask_for_proposals(&mut outputs, &self.place, command, stamp)?;
@@ -74,7 +92,9 @@ impl Process {
         from: ActorName,
         command: &Command,
         stamp: Stamp,
-    ) -> Result<Outputs, NoMemory> {
+    ) -> Result<Outputs, NoMemory>
+        ensures { IfOk result (λ outputs. outputs ≡ message (ActorName.Process self.now.place.site) from (Body.MProposeAck command.now.id stamp) ∷ bumps self.now.place.topology self.now.place.site (kept_or command.now (kept_of self.now command.now.id).sheet) stamp.0) }
+    {
         let mut outputs = self.nothing();
         outputs.add(Message {
             from: self.place.name(),
@@ -90,12 +110,15 @@ impl Process {
 
     /// Tells the own proposal to the process of this rank in each other partition of the command
     /// that is kept, or else of this one.
+    #[tactic(auto, unfolding(tp_rules::specs::Process::bumps))]
     fn tell_bumps(
         &self,
         outputs: &mut Outputs,
         command: &Command,
         stamp: Stamp,
-    ) -> Result<(), NoMemory> {
+    ) -> Result<(), NoMemory>
+        ensures { OnOk result (outputs.new ≡ outputs.old ++ bumps self.now.place.topology self.now.place.site (kept_or command.now (kept_of self.now command.now.id).sheet) stamp.0) }
+    {
         let kept = command_or(&self.sheets, &self.place, command);
         let names = counterparts(self.alloc, &self.place, kept)?;
         let body = Body::MBump { id: kept.id, stamp };

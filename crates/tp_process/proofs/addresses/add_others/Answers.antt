@@ -1,4 +1,4 @@
-use Rattle.std.proofs.Common.{◌≡◌, ◌-◌, ◌∙◌, true, false, sym, arith}
+use Rattle.std.proofs.Common.{◌≡◌, ◌-◌, ◌∙◌, sym, arith}
 use Rattle.tp_process.proofs.Rows.{kept-more, kept-same}
 use Rattle.tp_process.proofs.addresses.add_others.Goals as goal
 use Rattle.tp_process.proofs.addresses.add_others.Goals.{then-ne+in_ok-add, else-ne}

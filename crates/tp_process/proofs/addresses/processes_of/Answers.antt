@@ -1,5 +1,4 @@
-use Rattle.std.proofs.Common.{◌≡◌, ◌-◌, arith, ap, ◌∙◌, map}
-use Rattle.std.proofs.Common.{List, ℕ}
+use Rattle.std.proofs.Common.{◌≡◌, ◌-◌, arith}
 use Rattle.tp_process.proofs.Rows.{each-next}
 use Rattle.tp_process.proofs.addresses.processes_of.Goals as goal
 

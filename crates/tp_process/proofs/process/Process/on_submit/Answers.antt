@@ -1,0 +1,38 @@
+use Rattle.std.proofs.Common.{◌≡◌, true, ◌++◌, sym, ap, subst, ◌∙◌, arith}
+use Rattle.std.specs.Prelude.{◌==◌}
+use Rattle.std.proofs.lemmas.Bool.{and_parts}
+use Rattle.tp_process.proofs.Proposing.{stamp_fits, submit_refused, submit_taken, submits_now}
+use Rattle.tp_process.specs.State.{IsState, takes_proposal, takes_submission}
+use Rattle.tp_rules.specs.Process.{Moved, bumps, proposals}
+use Rattle.tp_rules.specs.Sheet.{command_or, ring_setting}
+use Rattle.tp_sheet.specs.SiteSheet.{SiteSheet}
+use Rattle.tp_process.proofs.process.Process.on_submit.Goals as goal
+
+pub returns-then-not-takes_submission-clause-state : goal.returns-then-not-takes_submission-clause-state
+returns-then-not-takes_submission-clause-state c = λ s stands.
+    subst (λ (m : Moved). IsState c.args.self.now m.0)
+    (sym (submit_refused _ _ _ _ _ _ c.args.command.now s stands (sym c.takes_submission.ensures.value ∙ c.if-not-takes_submission.true)))
+    stands
+
+pub returns-clause-outputs : goal.returns-clause-outputs
+returns-clause-outputs c = λ s stands.
+    let place = c.args.self.now.place in
+    let command = c.args.command.now in
+    let t = c.next_stamp-stamp.result.0 in
+    let takes = sym c.takes_submission.ensures.value ∙ c.if-not-takes_submission.false in
+    c.in_ok-outputs.ensures
+    ∙ ap (λ (kept : SiteSheet). proposals (ring_setting place.topology) place.site command t ++ bumps place.topology place.site (command_or command kept.sheet) t) (stands.sheets_are command.id)
+    ∙ ap (λ (m : Moved). m.1) (sym (submit_taken _ _ _ _ _ _ command s stands t c.next_stamp-stamp.ensures takes))
+
+pub returns-clause-state : goal.returns-clause-state
+returns-clause-state c = λ s stands.
+    let p = c.args.self.now in
+    let command = c.args.command.now in
+    let t = c.next_stamp-stamp.result.0 in
+    let takes : takes_submission p command ≡ true = sym c.takes_submission.ensures.value ∙ c.if-not-takes_submission.false in
+    let proposes = (and_parts (command.home.0 == p.place.site.rank.0) (takes_proposal p command) takes).1 in
+    let fits = stamp_fits _ _ _ _ _ _ command s stands 0 t (omega arith) c.next_stamp-stamp.ensures proposes in
+    let kept = submits_now _ _ _ _ _ _ command s stands _ _ t c.in_ok-copy.ensures fits.1 c.in_ok-submit.ensures in
+    subst (λ (m : Moved). IsState c.promise.new.self m.0)
+    (sym (submit_taken _ _ _ _ _ _ command s stands t c.next_stamp-stamp.ensures takes))
+    (c.in_ok-promise.ensures.state s _ kept fits.0 fits.1)
