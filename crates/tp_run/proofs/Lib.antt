@@ -1,2 +1,4 @@
+pub mod Casting
 pub mod FormTexts
+pub mod Served
 pub mod TopCalls

@@ -1,6 +1,8 @@
 -- What the top call's answer means.
 use Rattle.std.specs.Prelude.{ℕ, ◌≡◌, ◌≢◌, ◌+◌, ◌≤◌, ◌<◌, ◌⊎◌, List, [], ◌∷◌, Option, Some, None, IfSome, length, codes}
+use Rattle.tp_base.specs.Lists.{Each}
 use Rattle.tp_outside.specs.Causes.{Rose}
+use Rattle.tp_rules.specs.declared.event.Entry.{Entry}
 use Rattle.tp_run.specs.Form.{IsFormOf}
 use Rattle.tp_run.specs.Status.{status_of}
 use Rattle.tp_run.specs.declared.finished.Cause.{Cause}
@@ -8,6 +10,7 @@ use Rattle.tp_run.specs.declared.finished.Cause.TheVariants.{Words, Script, Inpu
 use Rattle.tp_script.specs.declared.fault.ScriptCause.TheVariants.{Form}
 use Rattle.tp_script.specs.declared.fault.ScriptFault.{ScriptFault}
 use Rattle.tp_script.specs.declared.script.Script.{Script as ScriptValue}
+use Rattle.tp_wire.specs.Ranges.{IsInRange}
 
 -- the words that are served
 abbrev pub step_words : List (List ℕ)
@@ -47,3 +50,7 @@ IsRefusedFor left Memory = Unit {0}
 pub record IsFaultOf (fault : Cause) (before now : ℕ) (cause : Option Cause) : Type 0 where
   pub rose : cause ≡ Some fault → Rose before now
   pub kept : cause ≢ Some fault → now ≡ before
+
+-- each message that an entry of the journal sends is in the ranges of the wire format
+abbrev pub AreInRange : List Entry → Type 0
+AreInRange journal = Each (λ e. Each IsInRange e.outputs) journal

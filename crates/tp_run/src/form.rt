@@ -1,5 +1,6 @@
 ghost use Rattle.std.specs.Prelude.{◌≡◌, ◌≢◌, ◌<◌, ℕ, List, [], ◌∷◌, ◌++◌, IfOk, IfErr, MatchOption};
 ghost use Rattle.tp_base.specs.Lists.{Each};
+ghost use Rattle.tp_driver.specs.Driving.{IsServed};
 ghost use Rattle.tp_run.specs.Form.{hex_digit, hex_text, value_text, one_put, IsFormOf};
 ghost use Rattle.tp_script.specs.declared.script.Script.{Script as ScriptValue};
 ghost use Rattle.tp_ops.specs.Limits.{IsKey, IsValue};
@@ -29,6 +30,7 @@ pub enum FormError {
 /// Reads a script of one put: one partition, three replicas, one session with one command.
 pub fn read_form(alloc: Global, text: &[u8]) -> Result<Script, FormError>
     ensures read { IfOk result (λ script. IsFormOf text.now script) }
+    ensures served { IfOk result (λ script. IsServed script) }
     ensures refused { IfErr result (λ e. e ≡ FormError.Form → (script : ScriptValue) → IsFormOf text.now script → ⊥) }
 {
     let Some((key, value)) = words_between(text, HEAD, TAIL) else {

@@ -1,9 +1,14 @@
 ghost use Rattle.std.specs.Prelude.{◌≡◌, ◌≢◌, ◌⊎◌, ℕ, List, [], ◌++◌, Some, None, map, IfOk, IfErr, IfSome, IsTrue, ◌↔◌, string_bytes, codes, OnOk, length, ◌≤◌};
-ghost use Rattle.tp_outside.specs.Causes.{HasCause};
+ghost use Rattle.tp_outside.specs.Causes.{HasCause, Rose};
 ghost use Rattle.tp_outside.specs.Bytes.{AppendsFront};
-ghost use Rattle.std.specs.Io.KnownBytes.{Appends, Keeps};
+ghost use Rattle.std.specs.Io.KnownBytes.{Appends, IsAtEnd, Keeps};
+ghost use Rattle.tp_driver.specs.Driving.{IsDriven, IsServed};
+ghost use Rattle.tp_print.specs.Report.{report_text};
+ghost use Rattle.tp_rules.specs.Pending.{IsPickedRun, IsQuiet};
+ghost use Rattle.tp_rules.specs.Runs.{IsRun};
+ghost use Rattle.tp_script.specs.declared.script.Script.{Script as ScriptValue};
 ghost use Rattle.tp_run.specs.Form.{IsFormOf};
-ghost use Rattle.tp_run.specs.TopCall.{step_words, INPUT_MOST, IsStatusOf, IsSaidBy, IsRefusedFor, IsFaultOf};
+ghost use Rattle.tp_run.specs.TopCall.{AreInRange, step_words, INPUT_MOST, IsStatusOf, IsSaidBy, IsRefusedFor, IsFaultOf};
 
 use crate::cast::cast;
 use crate::finished::{Cause, Finished};
@@ -33,18 +38,33 @@ pub fn tempo_plain<S: Source, K: Sink>(
     ensures words { (map string_bytes words.now ≢ step_words) ↔ (result.cause ≡ Some Cause.Words) }
     ensures unread { result.cause ≡ Some Cause.Words → (S.left input.new ≡ S.left input.old) × (S.faults input.new ≡ S.faults input.old) }
 
-    // The input is refused where it is too long or of no form, and else its script is kept.
+    // The input is refused where it is too long or of no form. Else it was read to its end, and its script is kept.
     ensures refused { IfSome result.cause (λ cause. result.script ≡ None → cause ≢ Cause.Words → IsRefusedFor (S.left input.old) cause) }
     ensures script { IsSaidBy (S.left input.old) result.script }
+    ensures ended { IfSome result.script (λ script. S.ended input.new × IsAtEnd (S.left input.new)) }
+
+    // With a script the journal is a run of it, in which each step is the one that the picks choose, and whose messages
+    // have bytes. Where there was memory, it is quiet.
+    ensures run { IfSome result.script (λ script. IsRun script result.journal) }
+    ensures picked { IfSome result.script (λ script. IsPickedRun script result.journal) }
+    ensures ranges { IfSome result.script (λ script. AreInRange result.journal) }
+    ensures quiet { IfSome result.script (λ script. result.cause ≢ Some Cause.Memory → IsQuiet script result.journal) }
+
+    // The report of the journal is written: at status 0 all of it, and else some front of it.
+    ensures written { IfSome result.script (λ script. result.cause ≡ None → Appends (K.written out.old) (K.written out.new) (report_text script result.journal)) }
+    ensures front { IfSome result.script (λ script. AppendsFront (K.written out.old) (K.written out.new) (report_text script result.journal)) }
 
     // A fault is answered exactly where the count of faults rose.
     ensures read_fault { IsFaultOf Cause.Read (S.faults input.old) (S.faults input.new) result.cause }
     ensures write_fault { IsFaultOf Cause.Write (K.faults out.old) (K.faults out.new) result.cause }
 
-    // Without a script nothing is kept and nothing is written; with one only writing or memory can fail.
+    // Without a script nothing is kept and nothing is written. With one, only writing or memory can fail.
     ensures unkept { result.script ≡ None → result.journal ≡ [] }
     ensures unwritten { result.script ≡ None → Keeps (K.written out.old) (K.written out.new) }
     ensures served { IfSome result.script (λ script. (result.cause ≡ None) ⊎ (result.cause ≡ Some Cause.Write) ⊎ (result.cause ≡ Some Cause.Memory)) }
+
+    // Where the input is a text of the form and no count of faults rose, the status is 0, but for want of memory.
+    ensures complete { (text : List ℕ) (script : ScriptValue) → map string_bytes words.now ≡ step_words → S.left input.old ≡ Some text → length text ≤ INPUT_MOST → IsFormOf text script → ¬ Rose (S.faults input.old) (S.faults input.new) → ¬ Rose (K.faults out.old) (K.faults out.new) → (result.cause ≡ None) ⊎ (result.cause ≡ Some Cause.Memory) }
 {
     let journal = Journal::new(alloc);
     if !is_step(words) {
@@ -89,6 +109,8 @@ fn refused(cause: Cause, journal: Journal) -> Finished
 // The script that the whole input is.
 fn read_input<S: Source>(alloc: Global, input: &mut S) -> Result<Script, Cause>
     ensures script { IfOk result (λ script. IsSaidBy (S.left input.old) (Some script)) }
+    ensures served { IfOk result (λ script. IsServed script) }
+    ensures ended { OnOk result (S.ended input.new × IsAtEnd (S.left input.new)) }
     ensures refused { IfErr result (IsRefusedFor (S.left input.old)) }
     ensures fault { HasCause (S.faults input.old) (S.faults input.new) result Cause.Read }
 {
@@ -103,6 +125,7 @@ fn read_input<S: Source>(alloc: Global, input: &mut S) -> Result<Script, Cause>
 // The script that a text is, of which one byte more than an input may have is enough.
 fn read_text(alloc: Global, text: &[u8]) -> Result<Script, Cause>
     ensures script { IfOk result (IsFormOf text.now) }
+    ensures served { IfOk result (λ script. IsServed script) }
     ensures short { OnOk result (length text.now ≤ INPUT_MOST) }
     ensures refused { IfErr result (IsRefusedFor (Some text.now)) }
     ensures unfailed { IfErr result (λ cause. cause ≢ Cause.Read) }
@@ -125,6 +148,12 @@ fn read_text(alloc: Global, text: &[u8]) -> Result<Script, Cause>
 
 // Runs the script, and writes the report of its journal.
 fn step<K: Sink>(alloc: Global, script: Script, mut journal: Journal, out: &mut K) -> Finished
+    requires served { IsServed script }
+    requires empty { journal ≡ [] }
+    ensures driven { IsDriven script result.journal }
+    ensures quiet { result.cause ≢ Some Cause.Memory → IsQuiet script result.journal }
+    ensures written { result.cause ≡ None → Appends (K.written out.old) (K.written out.new) (report_text script result.journal) }
+    ensures front { AppendsFront (K.written out.old) (K.written out.new) (report_text script result.journal) }
     ensures status { IsStatusOf result.cause result.status }
     ensures script { result.script ≡ Some script }
     ensures fault { IsFaultOf Cause.Write (K.faults out.old) (K.faults out.new) result.cause }
@@ -148,7 +177,12 @@ fn step<K: Sink>(alloc: Global, script: Script, mut journal: Journal, out: &mut 
 
 // Makes the script's actors, runs them until nothing is pending, and gives the report.
 fn run(alloc: Global, script: &Script, journal: &mut Journal) -> Result<Bytes, Cause>
-    ensures { IfErr result (λ cause. cause ≡ Cause.Memory) }
+    requires served { IsServed script.now }
+    requires empty { journal.old ≡ [] }
+    ensures driven { IsDriven script.now journal.new }
+    ensures quiet { OnOk result (IsQuiet script.now journal.new) }
+    ensures report { IfOk result (λ text. text ≡ report_text script.now journal.new) }
+    ensures memory { IfErr result (λ cause. cause ≡ Cause.Memory) }
 {
     let Ok(mut actors) = cast(alloc, script) else {
         return Err(Cause::Memory);

@@ -1,0 +1,5 @@
+use Rattle.tp_driver.proofs.Reached.{none_driven}
+use Rattle.tp_run.proofs.plain.run.Goals as goal
+
+pub returns-in_default-clause-driven : goal.returns-in_default-clause-driven
+returns-in_default-clause-driven c = none_driven c.args.script.now c.args.journal.now c.requires.empty
