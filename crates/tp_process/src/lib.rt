@@ -10,5 +10,7 @@ mod place;
 mod process;
 mod sheets;
 mod submission;
+#[cfg(test)]
+mod tests;
 
 pub use process::Process;

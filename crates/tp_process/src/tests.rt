@@ -1,0 +1,132 @@
+use crate::process::Process;
+use std::alloc::Global;
+use std::test::Fail;
+use tp_base::{
+    ActorName, Bytes, CommandId, NoMemory, PartitionId, Rank, Sequence, SessionId, Site, Stamp,
+};
+use tp_ops::{Command, Op};
+use tp_rules::{Actor, Inner};
+use tp_topology::Topology;
+use tp_wire::{Body, Message};
+
+const ID: CommandId = CommandId {
+    session: SessionId(1),
+    number: 1,
+};
+
+fn site(rank: u8) -> Site {
+    Site {
+        partition: PartitionId(1),
+        rank: Rank(rank),
+    }
+}
+
+fn bytes(alloc: Global, byte: u8) -> Result<Bytes, NoMemory> {
+    let mut bytes = Sequence::new(alloc);
+    bytes.add(byte)?;
+    Ok(bytes)
+}
+
+fn command(alloc: Global) -> Result<Command, NoMemory> {
+    let mut ops = Sequence::new(alloc);
+    ops.add(Op::Get {
+        key: bytes(alloc, 0x61)?,
+    })?;
+    Ok(Command {
+        id: ID,
+        home: Rank(1),
+        ops,
+    })
+}
+
+fn message(from: ActorName, rank: u8, body: Body) -> Message {
+    Message {
+        from,
+        to: ActorName::Process(site(rank)),
+        body,
+    }
+}
+
+fn submission(alloc: Global) -> Result<Message, NoMemory> {
+    let body = Body::MSubmit {
+        command: command(alloc)?,
+    };
+    Ok(message(ActorName::Session(SessionId(1)), 1, body))
+}
+
+fn proposal(alloc: Global) -> Result<Message, NoMemory> {
+    let body = Body::MPropose {
+        command: command(alloc)?,
+        floor: Stamp(5),
+    };
+    Ok(message(ActorName::Process(site(1)), 2, body))
+}
+
+fn acknowledgement() -> Message {
+    let body = Body::MProposeAck {
+        id: ID,
+        stamp: Stamp(1),
+    };
+    message(ActorName::Process(site(2)), 1, body)
+}
+
+/// The process of rank 1 of three, for one partition.
+fn home(alloc: Global) -> Result<Process, Fail> {
+    let topology = Topology::new(1, 3, 1)?;
+    let site = Site {
+        partition: PartitionId(1),
+        rank: Rank(1),
+    };
+    Ok(Process::new(alloc, &topology, site))
+}
+
+/// The process of rank 2.
+fn second(alloc: Global) -> Result<Process, Fail> {
+    let topology = Topology::new(1, 3, 1)?;
+    let site = Site {
+        partition: PartitionId(1),
+        rank: Rank(2),
+    };
+    Ok(Process::new(alloc, &topology, site))
+}
+
+#[test]
+fn decided_fast(rt: HostRuntime) -> Result<(), Fail> {
+    let alloc = rt.alloc();
+    let mut process = home(alloc)?;
+    assert_eq!(rt; process.name(), ActorName::Process(site(1)));
+    assert_eq!(rt; process.next_inner(), None);
+    let asked = process.deliver(&submission(alloc)?)?;
+    assert_eq!(rt; asked.len(), 2);
+    assert_eq!(rt; process.clock(), 1);
+    assert_eq!(rt; process.stamp(ID), None);
+    let told = process.deliver(&acknowledgement())?;
+    assert_eq!(rt; told.len(), 3, "two other ranks and the executor");
+    assert_eq!(rt; process.stamp(ID), Some(Stamp(1)));
+    Ok(())
+}
+
+#[test]
+fn proposed_once(rt: HostRuntime) -> Result<(), Fail> {
+    let alloc = rt.alloc();
+    let mut process = second(alloc)?;
+    let answered = process.deliver(&proposal(alloc)?)?;
+    assert_eq!(rt; answered.len(), 1);
+    assert_eq!(rt; process.clock(), 5, "at least the floor");
+    let repeated = process.deliver(&proposal(alloc)?)?;
+    assert_eq!(rt; repeated.len(), 0);
+    Ok(())
+}
+
+#[test]
+fn announced_once(rt: HostRuntime) -> Result<(), Fail> {
+    let alloc = rt.alloc();
+    let mut process = second(alloc)?;
+    process.deliver(&proposal(alloc)?)?;
+    assert_eq!(rt; process.next_inner(), Some(Inner::Announce));
+    let announced = process.fire(Inner::Announce)?;
+    assert_eq!(rt; announced.len(), 3, "each executor of the partition");
+    assert_eq!(rt; process.next_inner(), None);
+    assert!(rt; !process.spent());
+    Ok(())
+}
