@@ -8,5 +8,7 @@ mod front;
 mod queue;
 mod store;
 mod telling;
+#[cfg(test)]
+mod tests;
 
 pub use executor::Executor;

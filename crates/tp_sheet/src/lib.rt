@@ -4,6 +4,8 @@
 mod access;
 mod gathered;
 mod sheet;
+#[cfg(test)]
+mod tests;
 
 pub use access::accesses;
 pub use sheet::Sheet;
