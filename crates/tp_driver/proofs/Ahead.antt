@@ -1,10 +1,9 @@
 -- The outputs from a front on, as the front moves.
 use Rattle.std.proofs.Common.{◌≡◌, ◌≢◌, ℕ, zero, suc, ◌+◌, ◌<◌, ◌≤◌, inl, inr, Bool, true, false, List, [], ◌∷◌, ◌++◌, length, Option, Some, None, refl, sym, ap, subst, ◌∙◌, arith}
-use Rattle.std.specs.Prelude.{not, nat_lt, ◌==◌, ◌&&◌, ◌||◌, drop, filter, is_some, reverse, slice_get}
-use Rattle.std.specs.Option.{option_and_then}
-use Rattle.std.proofs.lemmas.Bool.{cases_Bool, cases_eq, cases_lt, lt-ltb, le-ltb, cond-true, cond-false, eq-eqb, ne_eqb, or_left, or_right, or_from, and_from, and_left, and_right}
+use Rattle.std.specs.Prelude.{not, ◌==◌, drop, filter, is_some, reverse, slice_get}
+use Rattle.std.proofs.lemmas.Bool.{cases_Bool, cases_eq, cases_lt, lt-ltb, le-ltb, cond-true, cond-false, eq-eqb, or_left, or_right, or_from, and_from, and_right}
 use Rattle.std.proofs.lemmas.List.{length-reverse}
-use Rattle.tp_base.specs.Lists.{Ascends, Each, IsIn}
+use Rattle.tp_base.specs.Lists.{Ascends, IsIn}
 use Rattle.tp_base.proofs.Each.{each_append, each_in, each_of}
 use Rattle.tp_base.proofs.Members.{in_either}
 use Rattle.tp_driver.specs.Fronts.{IsWithin, ahead, is_before, is_behind, place_of_first}

@@ -1,12 +1,11 @@
 -- What comes next where no plan and no pick says otherwise: the first output ahead, else the first actor's own step; and that it is legal.
-use Rattle.std.proofs.Common.{◌≡◌, ◌≢◌, ℕ, zero, suc, ◌+◌, ◌-◌, ◌%◌, ◌<◌, ◌≤◌, ◌⊎◌, inl, inr, Bool, true, false, cond, List, [], ◌∷◌, ◌++◌, length, map, Option, Some, None, refl, sym, ap, subst, ◌∙◌, arith}
-use Rattle.std.specs.Prelude.{not, nat_lt, is_none, ◌&&◌, filter, filter_map, option_map, reverse, slice_get, unwrap_or}
-use Rattle.std.proofs.lemmas.Bool.{cases_Bool, cond-true, cond-false, cond_both, ltb-true, not-true}
+use Rattle.std.proofs.Common.{◌≡◌, ℕ, ◌%◌, inl, inr, Bool, true, false, cond, List, [], ◌∷◌, ◌++◌, length, map, Option, Some, None, refl, sym, ap, subst, ◌∙◌, arith}
+use Rattle.std.specs.Prelude.{not, nat_lt, filter, filter_map, option_map, reverse, slice_get, unwrap_or}
+use Rattle.std.proofs.lemmas.Bool.{cases_Bool, cond-true, cond-false, cond_both, ltb-true}
 use Rattle.tp_base.proofs.Each.{each_in}
 use Rattle.tp_base.specs.Lists.{IsIn}
 use Rattle.tp_base.specs.declared.names.ActorName.{ActorName}
 use Rattle.tp_base.specs.declared.names.ActorName.TheVariants.{Process, Executor, Session}
-use Rattle.tp_base.specs.declared.names.Site.{Site}
 use Rattle.tp_driver.proofs.Reached.{ahead_in}
 use Rattle.tp_driver.specs.Driving.{ComesNext, IsDriven, IsServed, MayMakeNext, own_steps}
 use Rattle.tp_driver.specs.Fronts.{IsReached, ahead, is_behind}
@@ -18,7 +17,7 @@ use Rattle.tp_rules.proofs.Journals.{output_is, picked_run_more, run_more}
 use Rattle.tp_rules.proofs.NoPlan.{delivery_once, due_none, due_of_none, fate_once, left_once, line_of_none, live_all}
 use Rattle.tp_rules.proofs.OwnSteps.{executor_may, process_may, session_may}
 use Rattle.tp_rules.proofs.Parcels.{sent_output}
-use Rattle.tp_rules.specs.Acts.{Act, Did, Took}
+use Rattle.tp_rules.specs.Acts.{Did, Took}
 use Rattle.tp_rules.specs.Executor as executor
 use Rattle.tp_rules.specs.Process as process
 use Rattle.tp_rules.specs.Session as session
@@ -30,7 +29,7 @@ use Rattle.tp_rules.specs.Runs.{FollowsFate, IsFor, IsHistory, IsLegal, IsRun, M
 use Rattle.tp_rules.specs.Sheet.{ring_setting}
 use Rattle.tp_rules.specs.declared.event.Entry.{Entry}
 use Rattle.tp_rules.specs.declared.event.Event.{Event}
-use Rattle.tp_rules.specs.declared.event.Event.TheVariants.{Deliver, Dropped, Inner as OfItself}
+use Rattle.tp_rules.specs.declared.event.Event.TheVariants.{Deliver, Inner as OfItself}
 use Rattle.tp_rules.specs.declared.event.Inner.{Inner}
 use Rattle.tp_rules.specs.declared.event.Inner.TheVariants.{Submit, Recover, Announce, Declare, Execute, Crash}
 use Rattle.tp_rules.specs.declared.event.Item.{Item}

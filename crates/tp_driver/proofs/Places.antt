@@ -1,21 +1,20 @@
 -- The place of each actor among the script's.
-use Rattle.std.proofs.Common.{◌≡◌, ◌≢◌, ℕ, zero, suc, ◌+◌, ◌-◌, ◌*◌, ◌<◌, ◌≤◌, ◌⊎◌, inl, inr, Bool, true, false, List, [], ◌∷◌, ◌++◌, length, map, Option, Some, None, refl, sym, ap, subst, ◌∙◌, arith}
+use Rattle.std.proofs.Common.{◌≡◌, ℕ, zero, suc, ◌+◌, ◌-◌, ◌*◌, ◌<◌, ◌≤◌, ◌⊎◌, inl, inr, true, List, [], ◌∷◌, ◌++◌, length, map, Option, Some, None, refl, sym, ap, subst, ◌∙◌, arith}
 use Rattle.std.proofs.Math.Nat.{mul-le-mul_right}
-use Rattle.std.proofs.lemmas.Bool.{cases_lt, and_parts, leb-true}
+use Rattle.std.proofs.lemmas.Bool.{cases_lt}
 use Rattle.std.proofs.lemmas.List.{append-nil, length-append, length-map}
 use Rattle.std.proofs.lemmas.Grind.{flat_map-append}
-use Rattle.std.proofs.lemmas.Option.{slice_get-map, slice_get_past}
+use Rattle.std.proofs.lemmas.Option.{slice_get-map}
 use Rattle.std.specs.List.{flat_map}
-use Rattle.std.specs.Prelude.{nat_le, option_map, slice_get}
+use Rattle.std.specs.Prelude.{option_map, slice_get}
 use Rattle.tp_base.proofs.Ends.{slice_get_left, slice_get_right}
 use Rattle.tp_base.specs.Limits.{IsFrom}
 use Rattle.tp_base.specs.declared.names.ActorName.{ActorName}
 use Rattle.tp_base.specs.declared.names.ActorName.TheVariants.{Process, Executor, Session}
-use Rattle.tp_base.specs.declared.names.SessionId.{SessionId}
 use Rattle.tp_base.specs.declared.names.Site.{Site}
 use Rattle.tp_driver.specs.Cast.{place_of, place_of_site}
 use Rattle.tp_rules.proofs.Fit.{between_is, is_between-from, site_is, site_known}
-use Rattle.tp_rules.specs.Addresses.{is_between, is_site_of, site}
+use Rattle.tp_rules.specs.Addresses.{is_site_of, site}
 use Rattle.tp_rules.specs.Journal.{is_known, ranks_of}
 use Rattle.tp_rules.specs.Pending.{actors_of, sites_of}
 use Rattle.tp_script.specs.declared.script.Script.{Script}

@@ -1,8 +1,8 @@
 -- The outputs from the front on are those that may still be delivered, after one more entry too.
-use Rattle.std.proofs.Common.{◌≡◌, ◌≢◌, ℕ, zero, suc, ◌+◌, ◌-◌, ◌<◌, ◌≤◌, inl, inr, Bool, true, false, List, [], ◌∷◌, ◌++◌, length, Option, Some, None, refl, sym, ap, subst, ◌∙◌, arith}
-use Rattle.std.specs.Prelude.{not, nat_lt, ◌==◌, ◌&&◌, ◌||◌, drop, filter, reverse}
-use Rattle.std.proofs.lemmas.Bool.{both_ways, not-true, cases_Bool, cases_eq, eq-eqb, ne_eqb, not_from_false, false_from_ne_true, or_from, le-ltb, and_left, and_right, and_from, and_parts, eqb-true}
-use Rattle.tp_base.specs.Lists.{Ascends, Each, IsIn}
+use Rattle.std.proofs.Common.{◌≡◌, ◌≢◌, ℕ, suc, ◌-◌, ◌<◌, ◌≤◌, inl, inr, Bool, true, false, List, [], ◌∷◌, ◌++◌, length, Option, Some, None, refl, sym, ap, subst, ◌∙◌, arith}
+use Rattle.std.specs.Prelude.{not, nat_lt, ◌==◌, drop, filter, reverse}
+use Rattle.std.proofs.lemmas.Bool.{both_ways, not-true, cases_Bool, cases_eq, eq-eqb, ne_eqb, not_from_false, or_from, le-ltb, and_left, and_right, and_from, and_parts, eqb-true}
+use Rattle.tp_base.specs.Lists.{Ascends, IsIn}
 use Rattle.tp_base.proofs.Each.{each_in, each_of}
 use Rattle.tp_base.proofs.Ends.{reverse_push}
 use Rattle.tp_base.proofs.Members.{in_either}
@@ -25,7 +25,6 @@ use Rattle.tp_rules.specs.declared.event.Event.{Event}
 use Rattle.tp_rules.specs.declared.event.Event.TheVariants.{Deliver, Dropped, Inner as OfItself}
 use Rattle.tp_rules.specs.declared.event.Inner.{Inner}
 use Rattle.tp_rules.specs.declared.event.Parcel.{Parcel}
-use Rattle.tp_script.specs.declared.script.PlanLine.{PlanLine}
 use Rattle.tp_script.specs.declared.script.Script.{Script}
 use Rattle.tp_wire.specs.declared.message.Message.{Message}
 

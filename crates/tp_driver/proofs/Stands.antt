@@ -1,5 +1,5 @@
 -- The actors of a driver, before and after a step of one of them.
-use Rattle.std.proofs.Common.{◌≡◌, ◌≢◌, ℕ, zero, suc, ◌+◌, ◌<◌, ◌≤◌, inl, inr, Bool, true, false, List, [], ◌∷◌, ◌++◌, length, set, take, Option, Some, None, refl, sym, ap, subst, ◌∙◌, arith}
+use Rattle.std.proofs.Common.{◌≡◌, ◌≢◌, ℕ, zero, suc, ◌+◌, ◌<◌, inl, inr, Bool, true, false, List, [], ◌∷◌, ◌++◌, length, set, take, Option, Some, None, refl, sym, ap, subst, ◌∙◌, arith}
 use Rattle.std.proofs.lemmas.Bool.{cases_eq}
 use Rattle.std.proofs.lemmas.List.{length-set, take_all}
 use Rattle.std.proofs.lemmas.Option.{slice_get-get_or, slice_get_within}
@@ -19,7 +19,6 @@ use Rattle.tp_rules.specs.Rules.{enabled, outputs_of}
 use Rattle.tp_rules.specs.declared.event.Entry.{Entry}
 use Rattle.tp_rules.specs.declared.event.Event.TheVariants.{Inner as OfItself}
 use Rattle.tp_rules.specs.declared.event.Inner.{Inner}
-use Rattle.tp_rules.specs.declared.event.Item.{Item}
 use Rattle.tp_script.specs.declared.script.Script.{Script}
 use Rattle.tp_wire.specs.declared.message.Message.{Message}
 

@@ -1,4 +1,4 @@
-use Rattle.std.proofs.Common.{rules, ◌≡◌, ◌<◌, length, refl, subst, sym, arith}
+use Rattle.std.proofs.Common.{◌<◌, length, refl, subst, sym, arith}
 use Rattle.tp_driver.proofs.Nexts.{delivered, first_output, known_to, m_act, m_range}
 use Rattle.tp_driver.proofs.Stands.{sends, stand_after, there, within}
 use Rattle.tp_driver.proofs.steps.deliver.Goals as goal

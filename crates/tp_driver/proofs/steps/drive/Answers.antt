@@ -1,4 +1,3 @@
-use Rattle.std.proofs.Common.{rules, ◌≡◌, sym, subst}
 use Rattle.tp_driver.proofs.Reached.{first_front, none_driven}
 use Rattle.tp_driver.proofs.steps.drive.Goals as goal
 

@@ -1,4 +1,4 @@
-use Rattle.std.proofs.Common.{rules, ◌≡◌, refl, sym, ◌∙◌, arith}
+use Rattle.std.proofs.Common.{refl, sym, ◌∙◌, arith}
 use Rattle.std.proofs.lemmas.Option.{slice_get_read}
 use Rattle.tp_driver.proofs.Stands.{first_own, no_own, no_own_at_all}
 use Rattle.tp_driver.proofs.steps.next_own.Goals as goal

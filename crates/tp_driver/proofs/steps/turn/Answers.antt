@@ -1,4 +1,4 @@
-use Rattle.std.proofs.Common.{rules, ◌≡◌, List, [], ap, ◌∙◌}
+use Rattle.std.proofs.Common.{◌≡◌, List, [], ap, ◌∙◌}
 use Rattle.std.specs.Prelude.{drop, reverse}
 use Rattle.tp_driver.proofs.Nexts.{pending_own, quiet_from}
 use Rattle.tp_driver.proofs.Reached.{comes_next, falls, front_delivered, front_own, none_ahead, reached_still}
