@@ -1,16 +1,15 @@
 -- The script's actors, made one after the other.
-use Rattle.std.proofs.Common.{◌≡◌, ℕ, zero, suc, ◌+◌, ◌-◌, ◌<◌, ◌≤◌, List, [], ◌∷◌, ◌++◌, length, map, Option, Some, None, refl, sym, ap, subst, ◌∙◌, append_assoc, arith}
+use Rattle.std.proofs.Common.{◌≡◌, ℕ, zero, suc, ◌+◌, ◌-◌, ◌≤◌, List, [], ◌∷◌, ◌++◌, length, map, Some, refl, sym, ap, subst, ◌∙◌, append_assoc, arith}
 use Rattle.std.proofs.lemmas.Grind.{flat_map-append}
 use Rattle.std.proofs.lemmas.List.{append-nil, map-append}
 use Rattle.std.specs.List.{flat_map}
-use Rattle.std.specs.Prelude.{false, slice_get}
+use Rattle.std.specs.Prelude.{slice_get}
 use Rattle.tp_base.specs.declared.names.ActorName.{ActorName}
 use Rattle.tp_base.specs.declared.names.ActorName.TheVariants.{Process, Executor, Session}
 use Rattle.tp_base.specs.declared.names.Site.{Site}
 use Rattle.tp_driver.specs.Cast.{AllStand}
-use Rattle.tp_rules.specs.Acts.{Act, Identity}
 use Rattle.tp_rules.specs.Addresses.{site}
-use Rattle.tp_rules.specs.Journal.{acts, identity_in, ranks_of}
+use Rattle.tp_rules.specs.Journal.{ranks_of}
 use Rattle.tp_rules.specs.Pending.{actors_of, sites_of}
 use Rattle.tp_run.specs.Actors.{AreNew, IsNew, Stands, identity, is_spent}
 use Rattle.tp_run.specs.declared.any_actor.AnyActor.{AnyActor}

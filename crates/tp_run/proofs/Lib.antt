@@ -1,4 +1,3 @@
 pub mod Casting
 pub mod FormTexts
-pub mod Served
 pub mod TopCalls

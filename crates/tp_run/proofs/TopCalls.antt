@@ -1,5 +1,5 @@
 -- Lists of words, and an input that was read whole, for the top call.
-use Rattle.std.proofs.Common.{◌≡◌, ℕ, ◌+◌, ◌<◌, ◌≤◌, ◌⊎◌, inl, inr, List, [], ◌∷◌, refl, sym, ◌∙◌, ap, subst, arith, length, get_or, take, min, map, Option, Some, None, Result, Ok, Err, IfOk, IfSome, OnOk}
+use Rattle.std.proofs.Common.{◌≡◌, ℕ, ◌+◌, ◌<◌, ◌≤◌, ◌⊎◌, inl, inr, List, [], ◌∷◌, sym, ◌∙◌, ap, subst, arith, length, get_or, take, min, map, Option, Some, None, Result, Ok, Err, IfOk, IfSome, OnOk}
 use Rattle.std.proofs.lemmas.List.{take_all, length-take}
 use Rattle.tp_run.specs.Form.{IsFormOf}
 use Rattle.tp_driver.specs.Driving.{IsDriven, IsServed}

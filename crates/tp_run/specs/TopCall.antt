@@ -1,5 +1,5 @@
 -- What the top call's answer means.
-use Rattle.std.specs.Prelude.{ℕ, ◌≡◌, ◌≢◌, ◌+◌, ◌≤◌, ◌<◌, ◌⊎◌, List, [], ◌∷◌, Option, Some, None, IfSome, length, codes}
+use Rattle.std.specs.Prelude.{ℕ, ◌≡◌, ◌≢◌, ◌+◌, ◌≤◌, ◌<◌, List, [], ◌∷◌, Option, Some, None, IfSome, length, codes}
 use Rattle.tp_base.specs.Lists.{Each}
 use Rattle.tp_outside.specs.Causes.{Rose}
 use Rattle.tp_rules.specs.declared.event.Entry.{Entry}

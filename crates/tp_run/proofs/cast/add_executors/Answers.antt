@@ -1,4 +1,3 @@
-use Rattle.std.proofs.Common.{rules, arith}
 use Rattle.tp_base.specs.declared.names.ActorName.TheVariants.{Executor}
 use Rattle.tp_run.proofs.Casting.{site_next}
 use Rattle.tp_run.proofs.cast.add_executors.Goals as goal

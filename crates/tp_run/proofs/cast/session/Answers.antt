@@ -1,4 +1,4 @@
-use Rattle.std.proofs.Common.{rules, length, ap, arith}
+use Rattle.std.proofs.Common.{length, ap, arith}
 use Rattle.std.specs.Prelude.{◌==◌}
 use Rattle.tp_rules.proofs.Selections.{filter_shorter}
 use Rattle.tp_run.proofs.cast.session.Goals as goal
