@@ -1,5 +1,4 @@
-pub mod Ahead
 pub mod Nexts
 pub mod Places
-pub mod Reached
 pub mod Stands
+pub mod Waits

@@ -1,28 +1,30 @@
--- What comes next where no plan and no pick says otherwise: the first output ahead, else the first actor's own step; and that it is legal.
-use Rattle.std.proofs.Common.{◌≡◌, ℕ, ◌%◌, inl, inr, Bool, true, false, cond, List, [], ◌∷◌, ◌++◌, length, map, Option, Some, None, refl, sym, ap, subst, ◌∙◌, arith}
+-- What is pending where there is no plan: the outputs that were not delivered yet, then the actors' own steps; and that each of them is legal.
+use Rattle.std.proofs.Common.{◌≡◌, ℕ, ◌%◌, inl, inr, Bool, true, false, cond, List, [], ◌∷◌, ◌++◌, length, map, Option, Some, None, refl, sym, ap, subst, ◌∙◌, arith, zero, suc, ◌+◌, ◌<◌}
 use Rattle.std.specs.Prelude.{not, nat_lt, filter, filter_map, option_map, reverse, slice_get, unwrap_or}
+use Rattle.std.proofs.lemmas.List.{length-append, length-map, length-reverse}
+use Rattle.std.proofs.lemmas.Option.{slice_get-map}
+use Rattle.tp_base.proofs.Ends.{slice_get_left, slice_get_right}
+use Rattle.tp_base.proofs.Members.{in_get}
 use Rattle.std.proofs.lemmas.Bool.{cases_Bool, cond-true, cond-false, cond_both, ltb-true}
 use Rattle.tp_base.proofs.Each.{each_in}
 use Rattle.tp_base.specs.Lists.{IsIn}
 use Rattle.tp_base.specs.declared.names.ActorName.{ActorName}
 use Rattle.tp_base.specs.declared.names.ActorName.TheVariants.{Process, Executor, Session}
-use Rattle.tp_driver.proofs.Reached.{ahead_in}
-use Rattle.tp_driver.specs.Driving.{ComesNext, IsDriven, IsServed, MayMakeNext, own_steps}
-use Rattle.tp_driver.specs.Fronts.{IsReached, ahead, is_behind}
-use Rattle.tp_driver.specs.declared.front.Front.{Front}
+use Rattle.tp_driver.specs.Driving.{ComesNext, IsDriven, IsServed, IsWaiting, MayMakeNext, outputs_left, own_steps, place_in}
 use Rattle.tp_rules.proofs.Histories.{free_history}
 use Rattle.tp_rules.proofs.InRange.{sent_in_range, sent_known}
 use Rattle.tp_journal.specs.Entered.{output_in}
 use Rattle.tp_rules.proofs.Journals.{output_is, picked_run_more, run_more}
 use Rattle.tp_rules.proofs.NoPlan.{delivery_once, due_none, due_of_none, fate_once, left_once, line_of_none, live_all}
 use Rattle.tp_rules.proofs.OwnSteps.{executor_may, process_may, session_may}
-use Rattle.tp_rules.proofs.Parcels.{sent_output}
+use Rattle.tp_rules.proofs.Parcels.{parcel, sent_output}
+use Rattle.tp_rules.proofs.Tallies.{filter_in}
 use Rattle.tp_rules.specs.Acts.{Did, Took}
 use Rattle.tp_rules.specs.Executor as executor
 use Rattle.tp_rules.specs.Process as process
 use Rattle.tp_rules.specs.Session as session
 use Rattle.tp_rules.specs.Journal.{act_of, acts, client_of, identity_in, is_known, is_live, output_at, sent}
-use Rattle.tp_rules.specs.Pending.{IsPicked, IsPickedRun, IsQuiet, actors_of, due_item, index_next, inner_item, is_waiting, item, own_item, parcel_item, pending, sites_of}
+use Rattle.tp_rules.specs.Pending.{IsPicked, IsPickedRun, actors_of, due_item, index_next, inner_item, is_waiting, item, own_item, parcel_item, pending, sites_of}
 use Rattle.tp_rules.specs.Plan.{Times, deliveries, deliveries_left, due, due_of, fate_of, is_planned}
 use Rattle.tp_rules.specs.Rules.{MayMake, enabled, outputs_of}
 use Rattle.tp_rules.specs.Runs.{FollowsFate, IsFor, IsHistory, IsLegal, IsRun, MayHappen, outputs_by, outputs_in}
@@ -67,6 +69,9 @@ delivery p = item p.message.to (Deliver p.entry p.place)
 abbrev own : Script → List Entry → ActorName → Option Item
 own script older a = inner_item a (enabled (identity_in script a) (acts older a))
 
+same_pair : {q r : ℕ × ℕ} → Some q ≡ Some r → q ≡ r
+same_pair h = cc
+
 module _ (script : Script) (served : IsServed script) (older : List Entry) (history : IsHistory script older) where
   waiting : (a : ActorName) → is_waiting script older a ≡ true
   waiting a =
@@ -84,45 +89,33 @@ module _ (script : Script) (served : IsServed script) (older : List Entry) (hist
       cond_both (is_live older (Process s)) (inner_item (Process s) (due script older s)) None (λ (o : Option Item). o ≡ None)
       (λ t. ap (inner_item (Process s)) none) (λ f. refl))
 
-  parcels_all : (front : Front) → IsReached script front older
-      → filter_map (parcel_item script older) (sent older) ≡ map delivery (ahead front older)
-  unfolding ahead
-  parcels_all front reached = kept_where (parcel_item script older) (λ p. not (is_behind front p)) delivery (sent older) each
+  parcels_all : filter_map (parcel_item script older) (sent older) ≡ map delivery (outputs_left script older)
+  unfolding outputs_left
+  parcels_all = kept_where (parcel_item script older) (λ p. nat_lt 0 (deliveries_left script older p)) delivery (sent older) (λ p h. each p)
     where
-      each : (p : Parcel) → IsIn p (sent older) → parcel_item script older p ≡ cond (not (is_behind front p)) (Some (delivery p)) None
-      each p h =
+      each : (p : Parcel) → parcel_item script older p ≡ cond (nat_lt 0 (deliveries_left script older p)) (Some (delivery p)) None
+      each p =
           let wait : is_waiting script older p.message.to ≡ true = waiting p.message.to in
-          let left : nat_lt 0 (deliveries_left script older p) ≡ not (is_behind front p) = reached p h in
           let once : fate_of script older p ≡ Times 1 = fate_once script served.no_plan older p in
-          rw (wait, left, once) refl
+          rw (wait, once) refl
 
-  pub pending_is : (front : Front) → IsReached script front older
-      → pending script older ≡ map delivery (ahead front older) ++ filter_map (own script older) (actors_of script)
+  pub pending_is : pending script older ≡ map delivery (outputs_left script older) ++ filter_map (own script older) (actors_of script)
   unfolding pending
-  pending_is front reached =
+  pending_is =
       let dues = due_all in
-      let parcels = parcels_all front reached in
+      let parcels = parcels_all in
       let owns = own_all in
       rw (dues, parcels, owns) refl
 
-  -- an entry that takes the first of what is pending is picked
-  pub picked_first : (first : Item) (rest : List Item) (e : Entry) → pending script older ≡ first ∷ rest → first ≡ item e.actor e.event
-      → e.outputs ≡ outputs_in script older e.actor e.event → IsPicked script older e
-  picked_first first rest e is same outputs = record {
-    item = ap (λ (n : ℕ). slice_get (pending script older) n) zeroth ∙ ap (λ (l : List Item). slice_get l 0) is ∙ ap (λ (x : Item). Some x) same;
-    outputs = outputs;
-  }
-    where
-      zeroth : index_next script older ≡ 0
-      zeroth =
-          let none : unwrap_or (slice_get script.picks (length older)) 0 ≡ 0 = ap (λ (l : List ℕ). unwrap_or (slice_get l (length older)) 0) served.no_picks in
-          ap (λ (n : ℕ). n % length (pending script older)) none ∙ ap (λ (l : List Item). 0 % length l) is ∙ grind arith
+  -- a delivery of an output that may still be delivered
 
-  -- a delivery of an output that is ahead
+  module _ (p : Parcel) (h : IsIn p (outputs_left script older)) where
+    left_in : IsIn p (sent older) × (nat_lt 0 (deliveries_left script older p) ≡ true)
+    unfolding outputs_left
+    left_in = filter_in (λ q. nat_lt 0 (deliveries_left script older q)) (sent older) p h
 
-  module _ (front : Front) (reached : IsReached script front older) (p : Parcel) (h : IsIn p (ahead front older)) where
     p_sent : IsIn p (sent older)
-    p_sent = (ahead_in front older p h).0
+    p_sent = left_in.0
 
     pub stands_there : output_at older p.entry p.place ≡ Some p.message
     stands_there = sent_output older p p_sent
@@ -152,8 +145,7 @@ module _ (script : Script) (served : IsServed script) (older : List Entry) (hist
       where
         undelivered : deliveries older p.entry p.place ≡ 0
         undelivered =
-            let some : nat_lt 0 (deliveries_left script older p) ≡ true = reached p p_sent ∙ (ahead_in front older p h).1 in
-            omega (arith, ltb-true 0 (deliveries_left script older p) some, left_once script served.no_plan older p)
+            omega (arith, ltb-true 0 (deliveries_left script older p) left_in.1, left_once script served.no_plan older p)
 
   -- a step of its own that an actor may make
 
@@ -219,46 +211,96 @@ module _ (script : Script) (served : IsServed script) (journal : List Entry) (ru
   unfolding IsRun
   as_history = run
 
-  -- what is pending where the front has reached so far
-  pub pending_from : (front : Front) → IsReached script front (reverse journal)
-      → pending script (reverse journal) ≡ map delivery (ahead front (reverse journal)) ++ own_steps script journal
+  pub pending_all : pending script (reverse journal) ≡ map delivery (outputs_left script (reverse journal)) ++ own_steps script journal
   unfolding own_steps
-  pending_from front reached = pending_is script served (reverse journal) as_history front reached
+  pending_all = pending_is script served (reverse journal) as_history
 
-  -- where nothing is ahead, that is what the actors may do by themselves
-  pub pending_own : (front : Front) → IsReached script front (reverse journal) → ahead front (reverse journal) ≡ []
-      → pending script (reverse journal) ≡ own_steps script journal
-  pending_own front reached none = pending_from front reached ∙ ap (λ (ps : List Parcel). map delivery ps ++ own_steps script journal) none
+  many : length (pending script (reverse journal)) ≡ length (outputs_left script (reverse journal)) + length (own_steps script journal)
+  many =
+      ap length pending_all ∙ length-append (map delivery (outputs_left script (reverse journal))) (own_steps script journal)
+      ∙ ap (λ (n : ℕ). n + length (own_steps script journal)) (length-map (outputs_left script (reverse journal)) delivery)
 
-  pub quiet_from : (front : Front) → IsReached script front (reverse journal) → ahead front (reverse journal) ≡ [] → own_steps script journal ≡ []
-      → IsQuiet script journal
-  unfolding IsQuiet
-  quiet_from front reached none still = pending_own front reached none ∙ still
+  -- the pick among the outputs that wait and the actors' own steps
 
-  pub entered : (e : Entry) → IsPickedRun script journal → IsLegal script (reverse journal) e → IsPicked script (reverse journal) e
-      → IsDriven script (journal ++ e ∷ [])
-  entered e picked legal is_picked = record { run = run_more script journal e run legal; picked = picked_run_more script journal e picked is_picked }
+  module _ (waiting : List (ℕ × ℕ)) (waits : IsWaiting script waiting journal) where
+    pub as_many : length waiting ≡ length (outputs_left script (reverse journal))
+    as_many = ap length waits ∙ length-map (outputs_left script (reverse journal)) place_in
 
-  -- with the delivery of the first output ahead
-  pub entered_delivery : (entry place : ℕ) (next : ComesNext script journal entry place) (e : Entry) → IsPickedRun script journal
-      → e.actor ≡ next.message.to → e.event ≡ Deliver entry place
-      → e.outputs ≡ outputs_of (identity_in script next.message.to) (acts (reverse journal) next.message.to) (Took next.message)
-      → IsDriven script (journal ++ e ∷ [])
-  entered_delivery entry place next e picked actor event sends =
-      let p : Parcel = record { entry = entry; place = place; message = next.message } in
-      let there : IsIn p (ahead next.front (reverse journal)) = subst (IsIn p) (sym next.is) (inl refl) in
-      let act : act_of (reverse journal) e.event ≡ Some (Took next.message) =
-      ap (act_of (reverse journal)) event ∙ took script served (reverse journal) as_history next.front next.reached p there in
-      let outputs : e.outputs ≡ outputs_in script (reverse journal) e.actor e.event =
-      sends ∙ ap (λ (a : ActorName). outputs_of (identity_in script a) (acts (reverse journal) a) (Took next.message)) (sym actor)
-      ∙ ap (outputs_by script (reverse journal) e.actor) (sym act) in
-      let first : item p.message.to (Deliver entry place) ≡ item e.actor e.event = cc in
-      entered e picked
-      (delivery_legal script served (reverse journal) as_history next.front next.reached p there e actor event outputs)
-      (picked_first script served (reverse journal) as_history (delivery p) (map delivery next.rest ++ own_steps script journal) e
-      (pending_from next.front next.reached ∙ ap (λ (ps : List Parcel). map delivery ps ++ own_steps script journal) next.is) first outputs)
+    pub index_is : (pick all : ℕ) → pick ≡ unwrap_or (slice_get script.picks (length journal)) 0 → all ≡ length waiting + length (own_steps script journal)
+        → index_next script (reverse journal) ≡ pick % all
+    index_is pick all is count =
+        let total : length (pending script (reverse journal)) ≡ all = omega (arith, many, as_many) in
+        ap (λ (n : ℕ). n % length (pending script (reverse journal))) (ap (λ (n : ℕ). unwrap_or (slice_get script.picks n) 0) (length-reverse journal) ∙ sym is)
+        ∙ ap (λ (n : ℕ). pick % n) total
 
-  -- with the first of the actors' own steps
+    pub nothing_pending : length waiting + length (own_steps script journal) ≡ 0 → pending script (reverse journal) ≡ []
+    nothing_pending none = no_items (pending script (reverse journal)) (omega (arith, many, as_many))
+      where
+        no_items : (items : List Item) → length items ≡ 0 → items ≡ []
+        no_items [] e = refl
+        no_items (x ∷ xs) e = absurd (omega arith)
+
+    -- the output at a place among those that wait
+
+    module _ (i entry place : ℕ) (next : ComesNext script journal i) (at : slice_get waiting i ≡ Some (entry, place)) where
+      pub chosen : (m : Message) × (slice_get (outputs_left script (reverse journal)) i ≡ Some (parcel entry place m))
+      chosen = of (outputs_left script (reverse journal)) i (sym (ap (λ (l : List (ℕ × ℕ)). slice_get l i) waits) ∙ at)
+        where
+          of : (ps : List Parcel) (i : ℕ) → slice_get (map place_in ps) i ≡ Some (entry, place) → (m : Message) × (slice_get ps i ≡ Some (parcel entry place m))
+          of [] i h = absurd cc
+          of (p ∷ ps) zero h =
+              let pair : (p.entry, p.place) ≡ (entry, place) = same_pair h in
+              let entries : p.entry ≡ entry = ap (λ (q : ℕ × ℕ). q.0) pair in
+              let places : p.place ≡ place = ap (λ (q : ℕ × ℕ). q.1) pair in
+              (p.message, ap (λ (q : Parcel). Some q) (λ j. record { entry = entries j; place = places j; message = p.message }))
+          of (p ∷ ps) (suc i) h = of ps i h
+
+      abbrev first : Parcel
+      first = parcel entry place chosen.0
+
+      first_left : IsIn first (outputs_left script (reverse journal))
+      first_left = in_get (outputs_left script (reverse journal)) i first chosen.1
+
+      pub first_output : output_in journal entry place ≡ Some chosen.0
+      first_output = output_is journal entry place ∙ stands_there script served (reverse journal) as_history first first_left
+
+      module _ (m : Message) (said : Some m ≡ output_in journal entry place) where
+        m_is : chosen.0 ≡ m
+        m_is = let same : Some m ≡ Some chosen.0 = said ∙ first_output in cc
+
+        pub known_to : is_known script m.to ≡ true
+        known_to = subst (λ (x : Message). is_known script x.to ≡ true) m_is (to_known script served (reverse journal) as_history first first_left)
+
+        pub m_range : IsInRange m
+        m_range = subst IsInRange m_is (in_range script served (reverse journal) as_history first first_left)
+
+        pub m_act : act_of (reverse journal) (Deliver entry place) ≡ Some (Took m)
+        m_act = took script served (reverse journal) as_history first first_left ∙ ap (λ (x : Message). Some (Took x)) m_is
+
+        pub delivered : (e : Entry) → IsPickedRun script journal → e.actor ≡ m.to → e.event ≡ Deliver entry place
+            → e.outputs ≡ outputs_of (identity_in script m.to) (acts (reverse journal) m.to) (Took m) → IsDriven script (journal ++ e ∷ [])
+        delivered e picked actor event sends =
+            let to : e.actor ≡ chosen.0.to = actor ∙ ap (λ (x : Message). x.to) (sym m_is) in
+            let act : act_of (reverse journal) e.event ≡ Some (Took m) = ap (act_of (reverse journal)) event ∙ m_act in
+            let outputs : e.outputs ≡ outputs_in script (reverse journal) e.actor e.event =
+            sends ∙ ap (λ (a : ActorName). outputs_of (identity_in script a) (acts (reverse journal) a) (Took m)) (sym actor)
+            ∙ ap (outputs_by script (reverse journal) e.actor) (sym act) in
+            let same : item chosen.0.to (Deliver entry place) ≡ item e.actor e.event = cc in
+            let here : slice_get (pending script (reverse journal)) i ≡ Some (item e.actor e.event) =
+            ap (λ (l : List Item). slice_get l i) pending_all
+            ∙ slice_get_left (map delivery (outputs_left script (reverse journal))) (own_steps script journal) i
+            (omega (arith, next.within, length-map (outputs_left script (reverse journal)) delivery))
+            ∙ slice_get-map delivery (outputs_left script (reverse journal)) i ∙ ap (option_map delivery) chosen.1
+            ∙ ap (λ (x : Item). Some x) same in
+            record {
+              run = run_more script journal e run (delivery_legal script served (reverse journal) as_history first first_left e to event outputs);
+              picked = picked_run_more script journal e picked (record {
+                item = ap (slice_get (pending script (reverse journal))) next.chosen ∙ here;
+                outputs = outputs;
+              });
+            }
+
+  -- an actor's own step
   pub entered_own : (a : ActorName) (inner : Inner) (next : MayMakeNext script journal a inner) (e : Entry) → IsPickedRun script journal
       → e.actor ≡ a → e.event ≡ OfItself inner → e.outputs ≡ outputs_of (identity_in script a) (acts (reverse journal) a) (Did inner)
       → IsDriven script (journal ++ e ∷ [])
@@ -267,40 +309,13 @@ module _ (script : Script) (served : IsServed script) (journal : List Entry) (ru
       let outputs : e.outputs ≡ outputs_in script (reverse journal) e.actor e.event =
       sends ∙ ap (λ (b : ActorName). outputs_of (identity_in script b) (acts (reverse journal) b) (Did inner)) (sym actor)
       ∙ ap (outputs_by script (reverse journal) e.actor) (sym act) in
-      let first : item a (OfItself inner) ≡ item e.actor e.event = cc in
-      entered e picked
-      (own_legal script served (reverse journal) as_history a inner e next.own.known next.own.enabled actor event outputs)
-      (picked_first script served (reverse journal) as_history (item a (OfItself inner)) next.own.rest e (next.pending ∙ next.own.is) first outputs)
-
-  -- the message that is taken
-
-  module _ (entry place : ℕ) (next : ComesNext script journal entry place) where
-    abbrev first : Parcel
-    first = record { entry = entry; place = place; message = next.message }
-
-    first_ahead : IsIn first (ahead next.front (reverse journal))
-    first_ahead = subst (IsIn first) (sym next.is) (inl refl)
-
-    pub first_output : output_in journal entry place ≡ Some next.message
-    first_output = output_is journal entry place ∙ stands_there script served (reverse journal) as_history next.front next.reached first first_ahead
-
-    module _ (m : Message) (at : Some m ≡ output_in journal entry place) where
-      m_is : next.message ≡ m
-      m_is = let same : Some m ≡ Some next.message = at ∙ first_output in cc
-
-      pub known_to : is_known script m.to ≡ true
-      known_to = subst (λ (x : Message). is_known script x.to ≡ true) m_is (to_known script served (reverse journal) as_history next.front next.reached first first_ahead)
-
-      pub m_range : IsInRange m
-      m_range = subst IsInRange m_is (in_range script served (reverse journal) as_history next.front next.reached first first_ahead)
-
-      pub m_act : act_of (reverse journal) (Deliver entry place) ≡ Some (Took m)
-      m_act = took script served (reverse journal) as_history next.front next.reached first first_ahead ∙ ap (λ (x : Message). Some (Took x)) m_is
-
-      pub delivered : (e : Entry) → IsPickedRun script journal → e.actor ≡ m.to → e.event ≡ Deliver entry place
-          → e.outputs ≡ outputs_of (identity_in script m.to) (acts (reverse journal) m.to) (Took m) → IsDriven script (journal ++ e ∷ [])
-      delivered e picked actor event sends =
-          let to : e.actor ≡ next.message.to = actor ∙ ap (λ (x : Message). x.to) (sym m_is) in
-          let sends' : e.outputs ≡ outputs_of (identity_in script next.message.to) (acts (reverse journal) next.message.to) (Took next.message) =
-          sends ∙ ap (λ (x : Message). outputs_of (identity_in script x.to) (acts (reverse journal) x.to) (Took x)) (sym m_is) in
-          entered_delivery entry place next e picked to event sends'
+      let same : item a (OfItself inner) ≡ item e.actor e.event = cc in
+      let here : slice_get (pending script (reverse journal)) (index_next script (reverse journal)) ≡ Some (item e.actor e.event) =
+      ap (λ (l : List Item). slice_get l (index_next script (reverse journal))) pending_all
+      ∙ slice_get_right (map delivery (outputs_left script (reverse journal))) (own_steps script journal) next.place (index_next script (reverse journal))
+      (omega (arith, next.chosen, length-map (outputs_left script (reverse journal)) delivery))
+      ∙ next.own.is ∙ ap (λ (x : Item). Some x) same in
+      record {
+        run = run_more script journal e run (own_legal script served (reverse journal) as_history a inner e next.own.known next.own.enabled actor event outputs);
+        picked = picked_run_more script journal e picked (record { item = here; outputs = outputs });
+      }

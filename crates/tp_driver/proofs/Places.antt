@@ -19,6 +19,7 @@ use Rattle.tp_rules.specs.Journal.{is_known, ranks_of}
 use Rattle.tp_rules.specs.Pending.{actors_of, sites_of}
 use Rattle.tp_script.specs.declared.script.Script.{Script}
 use Rattle.tp_topology.specs.Counting.{up_to}
+use Rattle.tp_topology.specs.Shape.{IsShape}
 
 -- what a list of two parts has at a place
 split_get : {X : Type 0} (xs ys : List X) (k : ℕ) (x : X) → slice_get (xs ++ ys) k ≡ Some x
@@ -202,3 +203,11 @@ module _ (script : Script) where
   get_place (Executor s) known =
       slice_get_right (sessions ++ processes) executors (place_of_site script s) (place_of script (Executor s)) (omega (arith, length-processes))
       ∙ get_site (λ s. Executor s) s known
+
+  -- an accepted script has few actors
+  pub few_actors : IsShape script.topology → length script.homes ≤ 16 → length (actors_of script) ≤ 72
+  unfolding actors_of
+  few_actors shape few =
+      let wide : script.topology.partitions * r ≤ 4 * r = mul-le-mul_right r shape.few_partitions in
+      let deep : 4 * r ≤ 28 = omega (arith, shape.few_replicas) in
+      omega (arith, few, length-append (sessions ++ processes) executors, length-processes, length-map (sites_of script) (λ s. Executor s), length-sites)

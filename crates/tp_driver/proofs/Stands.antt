@@ -1,16 +1,17 @@
 -- The actors of a driver, before and after a step of one of them.
-use Rattle.std.proofs.Common.{◌≡◌, ◌≢◌, ℕ, zero, suc, ◌+◌, ◌<◌, inl, inr, Bool, true, false, List, [], ◌∷◌, ◌++◌, length, set, take, Option, Some, None, refl, sym, ap, subst, ◌∙◌, arith}
+use Rattle.std.proofs.Common.{◌≡◌, ◌≢◌, ℕ, zero, suc, ◌+◌, ◌<◌, inl, inr, Bool, true, false, List, [], ◌∷◌, ◌++◌, drop, length, set, take, Option, Some, None, refl, sym, ap, subst, ◌∙◌, arith}
 use Rattle.std.proofs.lemmas.Bool.{cases_eq}
-use Rattle.std.proofs.lemmas.List.{length-set, take_all}
+use Rattle.std.proofs.lemmas.List.{length-append, length-set, take-append-drop, take_all}
+use Rattle.std.proofs.lemmas.List.Elements.{filter_map-append}
 use Rattle.std.proofs.lemmas.Option.{slice_get-get_or, slice_get_within}
-use Rattle.std.specs.Prelude.{filter_map, reverse, slice_get, slice_index_or, slice_set}
-use Rattle.tp_base.proofs.Ends.{get_set_other, get_set_same}
+use Rattle.std.specs.Prelude.{filter_map, is_some, reverse, slice_get, slice_index_or, slice_set}
+use Rattle.tp_base.proofs.Ends.{get_set_other, get_set_same, slice_get_left, slice_get_push}
 use Rattle.tp_base.proofs.SameNames.{same_name_not}
 use Rattle.tp_base.specs.declared.names.ActorName.{ActorName}
 use Rattle.tp_base.specs.declared.names.ActorName.TheVariants.{Process, Executor, Session}
 use Rattle.tp_driver.proofs.Places.{get_place, place_get}
 use Rattle.tp_driver.specs.Cast.{AllStand, place_of}
-use Rattle.tp_driver.specs.Driving.{IsFirstOwn, own_step, own_steps}
+use Rattle.tp_driver.specs.Driving.{IsOwn, own_item, own_steps}
 use Rattle.tp_rules.proofs.Journals.{acts_here, acts_other}
 use Rattle.tp_rules.specs.Acts.{Act, Identity, name_in}
 use Rattle.tp_rules.specs.Journal.{act_of, acts, identity_in, is_known, with_act}
@@ -19,6 +20,7 @@ use Rattle.tp_rules.specs.Rules.{enabled, outputs_of}
 use Rattle.tp_rules.specs.declared.event.Entry.{Entry}
 use Rattle.tp_rules.specs.declared.event.Event.TheVariants.{Inner as OfItself}
 use Rattle.tp_rules.specs.declared.event.Inner.{Inner}
+use Rattle.tp_rules.specs.declared.event.Item.{Item}
 use Rattle.tp_script.specs.declared.script.Script.{Script}
 use Rattle.tp_wire.specs.declared.message.Message.{Message}
 
@@ -27,7 +29,19 @@ name_of_identity script (Process s) = refl
 name_of_identity script (Executor s) = refl
 name_of_identity script (Session s) = refl
 
--- what is kept of a list, where nothing is kept of what stands before one item
+abbrev pub count_of : {X : Type 0} → Option X → ℕ
+count_of None = 0
+count_of (Some x) = 1
+
+pub count_some : {X : Type 0} (o : Option X) → is_some o ≡ true → count_of o ≡ 1
+count_some None e = absurd cc
+count_some (Some x) e = refl
+
+pub count_none : {X : Type 0} (o : Option X) → is_some o ≡ false → count_of o ≡ 0
+count_none None e = refl
+count_none (Some x) e = absurd cc
+
+-- what is kept of the front of a list, by one item more
 
 kept_out : {X Y : Type 0} (f : X → Option Y) (y : X) (xs : List X) → f y ≡ None → filter_map f (y ∷ xs) ≡ filter_map f xs
 kept_out f y xs e = rw e refl
@@ -35,34 +49,39 @@ kept_out f y xs e = rw e refl
 kept_in : {X Y : Type 0} (f : X → Option Y) (y : X) (z : Y) (xs : List X) → f y ≡ Some z → filter_map f (y ∷ xs) ≡ z ∷ filter_map f xs
 kept_in f y z xs e = rw e refl
 
--- nothing is kept of the first, nor of the rest
-none_both : {X Y : Type 0} (f : X → Option Y) (y : X) (xs : List X) → filter_map f (y ∷ xs) ≡ [] → (f y ≡ None) × (filter_map f xs ≡ [])
-none_both {X} {Y} f y xs none = by (f y) refl
+next_out : {X Y : Type 0} (f : X → Option Y) (xs : List X) (k : ℕ) (x : X) → slice_get xs k ≡ Some x → f x ≡ None
+    → filter_map f (take (suc k) xs) ≡ filter_map f (take k xs)
+next_out f [] k x at gone = absurd cc
+next_out f (y ∷ ys) zero x at gone = let same : y ≡ x = cc in kept_out f y [] (ap f same ∙ gone)
+next_out {X} {Y} f (y ∷ ys) (suc k) x at gone = by (f y) refl (next_out f ys k x at gone)
   where
-    by : (o : Option Y) → f y ≡ o → (f y ≡ None) × (filter_map f xs ≡ [])
-    by None e = (e, sym (kept_out f y xs e) ∙ none)
-    by (Some z) e = let wrong : z ∷ filter_map f xs ≡ [] = sym (kept_in f y z xs e) ∙ none in absurd cc
+    by : (o : Option Y) → f y ≡ o → filter_map f (take (suc k) ys) ≡ filter_map f (take k ys) → filter_map f (y ∷ take (suc k) ys) ≡ filter_map f (y ∷ take k ys)
+    by None e rest = kept_out f y (take (suc k) ys) e ∙ rest ∙ sym (kept_out f y (take k ys) e)
+    by (Some z) e rest = kept_in f y z (take (suc k) ys) e ∙ ap (λ (l : List Y). z ∷ l) rest ∙ sym (kept_in f y z (take k ys) e)
 
-kept_later : {X Y : Type 0} (f : X → Option Y) (xs : List X) (k : ℕ) (x : X) → slice_get xs k ≡ Some x → filter_map f (take k xs) ≡ [] → f x ≡ None
-    → filter_map f (take (suc k) xs) ≡ []
-kept_later f [] k x at none gone = absurd cc
-kept_later f (y ∷ ys) zero x at none gone =
-    let same : y ≡ x = cc in
-    kept_out f y [] (ap f same ∙ gone)
-kept_later f (y ∷ ys) (suc k) x at none gone =
-    let both = none_both f y (take k ys) none in
-    kept_out f y (take (suc k) ys) both.0 ∙ kept_later f ys k x at both.1 gone
+next_in : {X Y : Type 0} (f : X → Option Y) (xs : List X) (k : ℕ) (x : X) (z : Y) → slice_get xs k ≡ Some x → f x ≡ Some z
+    → filter_map f (take (suc k) xs) ≡ filter_map f (take k xs) ++ z ∷ []
+next_in f [] k x z at some = absurd cc
+next_in f (y ∷ ys) zero x z at some = let same : y ≡ x = cc in kept_in f y z [] (ap f same ∙ some)
+next_in {X} {Y} f (y ∷ ys) (suc k) x z at some = by (f y) refl (next_in f ys k x z at some)
+  where
+    by : (o : Option Y) → f y ≡ o → filter_map f (take (suc k) ys) ≡ filter_map f (take k ys) ++ z ∷ []
+        → filter_map f (y ∷ take (suc k) ys) ≡ filter_map f (y ∷ take k ys) ++ z ∷ []
+    by None e rest = kept_out f y (take (suc k) ys) e ∙ rest ∙ ap (λ (l : List Y). l ++ z ∷ []) (sym (kept_out f y (take k ys) e))
+    by (Some w) e rest =
+        kept_in f y w (take (suc k) ys) e ∙ ap (λ (l : List Y). w ∷ l) rest ∙ ap (λ (l : List Y). l ++ z ∷ []) (sym (kept_in f y w (take k ys) e))
 
-kept_first : {X Y : Type 0} (f : X → Option Y) (xs : List X) (k : ℕ) (x : X) (y : Y) → slice_get xs k ≡ Some x → filter_map f (take k xs) ≡ []
-    → f x ≡ Some y → (rest : List Y) × (filter_map f xs ≡ y ∷ rest)
-kept_first f [] k x y at none some = absurd cc
-kept_first f (z ∷ zs) zero x y at none some =
-    let same : z ≡ x = cc in
-    (filter_map f zs, kept_in f z y zs (ap f same ∙ some))
-kept_first f (z ∷ zs) (suc k) x y at none some =
-    let both = none_both f z (take k zs) none in
-    let later = kept_first f zs k x y at both.1 some in
-    (later.0, kept_out f z zs both.0 ∙ later.1)
+-- what is kept of a whole list begins with what is kept of its front
+kept_at : {X Y : Type 0} (f : X → Option Y) (xs : List X) (k : ℕ) (x : X) (z : Y) → slice_get xs k ≡ Some x → f x ≡ Some z
+    → slice_get (filter_map f xs) (length (filter_map f (take k xs))) ≡ Some z
+kept_at {X} {Y} f xs k x z at some =
+    let front : List Y = filter_map f (take k xs) in
+    let whole : filter_map f xs ≡ (front ++ z ∷ []) ++ filter_map f (drop (suc k) xs) =
+    ap (filter_map f) (sym (take-append-drop (suc k) xs)) ∙ filter_map-append f (take (suc k) xs) (drop (suc k) xs)
+    ∙ ap (λ (l : List Y). l ++ filter_map f (drop (suc k) xs)) (next_in f xs k x z at some) in
+    ap (λ (l : List Y). slice_get l (length front)) whole
+    ∙ slice_get_left (front ++ z ∷ []) (filter_map f (drop (suc k) xs)) (length front) (omega (arith, length-append front (z ∷ [])))
+    ∙ slice_get_push front z
 
 none_within : {X : Type 0} (xs : List X) (k : ℕ) → k < length xs → slice_get xs k ≡ None → ⊥
 none_within [] k lt e = omega arith
@@ -156,7 +175,11 @@ module _ {A : Type 0} (identity_of : A → Identity) (is_spent : A → Bool) (st
 
   -- own steps, along the list
 
-  module _ (k : ℕ) (a : A) (at : slice_get actors k ≡ Some a) (none : filter_map (own_step script journal) (take k (actors_of script)) ≡ []) where
+  -- the own steps of the first of the actors
+  abbrev pub steps_of : ℕ → List Item
+  steps_of k = filter_map (own_item script journal) (take k (actors_of script))
+
+  module _ (k : ℕ) (a : A) (at : slice_get actors k ≡ Some a) where
     own_of : (o : Option Inner) → ((acts : List Act) → stands a acts → o ≡ enabled (identity_of a) acts)
         → o ≡ enabled (identity_in script (named k a at).0) (acts (reverse journal) (named k a at).0)
     own_of o next =
@@ -164,30 +187,42 @@ module _ {A : Type 0} (identity_of : A → Identity) (is_spent : A → Bool) (st
         let before = all.each k a name.0 at name.1 in
         next (acts (reverse journal) name.0) before.2 ∙ ap (λ (i : Identity). enabled i (acts (reverse journal) name.0)) before.0
 
-    pub no_own : ((acts : List Act) → stands a acts → None ≡ enabled (identity_of a) acts) → filter_map (own_step script journal) (take (k + 1) (actors_of script)) ≡ []
+    pub no_own : ((acts : List Act) → stands a acts → None ≡ enabled (identity_of a) acts) → length (steps_of (k + 1)) ≡ length (steps_of k)
     no_own next =
         let name = named k a at in
-        let one : suc k ≡ k + 1 = omega arith in
-        subst (λ n. filter_map (own_step script journal) (take n (actors_of script)) ≡ []) one (kept_later (own_step script journal) (actors_of script) k name.0 name.1 none (ap (inner_item name.0) (sym (own_of None next))))
+        let one : k + 1 ≡ suc k = omega arith in
+        ap (λ (n : ℕ). length (steps_of n)) one
+        ∙ ap length (next_out (own_item script journal) (actors_of script) k name.0 name.1 (ap (inner_item name.0) (sym (own_of None next))))
 
-    pub first_own : (inner : Inner) (called : ActorName) → ((acts : List Act) → stands a acts → Some inner ≡ enabled (identity_of a) acts) → called ≡ name_in (identity_of a)
-        → IsFirstOwn script journal called inner
+    pub one_own : (inner : Inner) → ((acts : List Act) → stands a acts → Some inner ≡ enabled (identity_of a) acts)
+        → length (steps_of (k + 1)) ≡ length (steps_of k) + 1
+    one_own inner next =
+        let name = named k a at in
+        let one : k + 1 ≡ suc k = omega arith in
+        ap (λ (n : ℕ). length (steps_of n)) one
+        ∙ ap length (next_in (own_item script journal) (actors_of script) k name.0 (item name.0 (OfItself inner)) name.1 (ap (inner_item name.0) (sym (own_of (Some inner) next))))
+        ∙ length-append (steps_of k) (item name.0 (OfItself inner) ∷ [])
+
+    pub step_count : (o : Option Inner) → ((acts : List Act) → stands a acts → o ≡ enabled (identity_of a) acts)
+        → length (steps_of (k + 1)) ≡ length (steps_of k) + count_of o
+    step_count None next = omega (arith, no_own next)
+    step_count (Some inner) next = one_own inner next
+
+    pub own_at : (inner : Inner) (called : ActorName) → ((acts : List Act) → stands a acts → Some inner ≡ enabled (identity_of a) acts) → called ≡ name_in (identity_of a)
+        → IsOwn script journal (length (steps_of k)) called inner
     unfolding own_steps
-    first_own inner called next calls =
+    own_at inner called next calls =
         let name = named k a at in
         let before = all.each k a name.0 at name.1 in
         let is : called ≡ name.0 = calls ∙ ap name_in before.0 ∙ name_of_identity script name.0 in
         let makes : Some inner ≡ enabled (identity_in script name.0) (acts (reverse journal) name.0) = own_of (Some inner) next in
-        let found = kept_first (own_step script journal) (actors_of script) k name.0 (item name.0 (OfItself inner)) name.1 none (ap (inner_item name.0) (sym makes)) in
-        subst (λ (n : ActorName). IsFirstOwn script journal n inner) (sym is) (record {
+        subst (λ (n : ActorName). IsOwn script journal (length (steps_of k)) n inner) (sym is) (record {
           known = (place_get script k name.0 name.1).1;
           enabled = sym makes;
-          rest = found.0;
-          is = found.1;
+          is = kept_at (own_item script journal) (actors_of script) k name.0 (item name.0 (OfItself inner)) name.1 (ap (inner_item name.0) (sym makes));
         })
 
-  -- none of them has a step
-  pub no_own_at_all : (n : ℕ) → n ≡ length actors → filter_map (own_step script journal) (take n (actors_of script)) ≡ [] → own_steps script journal ≡ []
+  -- of all actors
+  pub all_steps : (n : ℕ) → n ≡ length actors → length (steps_of n) ≡ length (own_steps script journal)
   unfolding own_steps
-  no_own_at_all n e none =
-      ap (λ (l : List ActorName). filter_map (own_step script journal) l) (sym (take_all n (actors_of script) (omega (arith, all.many)))) ∙ none
+  all_steps n e = ap (λ (l : List ActorName). length (filter_map (own_item script journal) l)) (take_all n (actors_of script) (omega (arith, all.many)))

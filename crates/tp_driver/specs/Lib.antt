@@ -1,3 +1,2 @@
 pub mod Cast
 pub mod Driving
-pub mod Fronts

@@ -1,8 +1,9 @@
 //! Runs a script's actors one step at a time.
 #![tactic(auto)]
 
-mod front;
+mod choice;
 mod roster;
 mod steps;
+mod waiting;
 
 pub use steps::drive;

@@ -1,21 +1,22 @@
-ghost use Rattle.std.specs.Prelude.{◌≡◌, ◌<◌, [], None, false, reverse, IfOk, IfSome, IsTrue, List, OnOk};
+ghost use Rattle.std.specs.Prelude.{◌≡◌, ◌<◌, ◌++◌, ◌∷◌, [], false, length, reverse, suc, IfOk, IsTrue, OnErr, OnOk};
 ghost use Rattle.tp_driver.specs.Cast.{AllStand};
-ghost use Rattle.tp_driver.specs.Driving.{ComesNext, IsDriven, IsFirstOwn, IsFront, IsOneMore, IsServed, MayMakeNext, own_steps};
+ghost use Rattle.tp_driver.specs.Driving.{ComesNext, IsDriven, IsOneMore, IsServed, IsWaiting, MayMakeNext, places_of};
 ghost use Rattle.tp_rules.specs.Left.{left};
 ghost use Rattle.tp_rules.specs.Pending.{IsQuiet};
-ghost use Rattle.tp_rules.specs.declared.event.Entry.{Entry};
-ghost use Rattle.tp_script.specs.declared.script.Script.{Script};
 
-use crate::front::Front;
+use crate::choice::{Chosen, choose};
 use crate::roster::place_of;
+use crate::waiting::Waiting;
+use std::alloc::Global;
 use tp_base::{ActorName, NoMemory};
 use tp_journal::Journal;
 use tp_rules::{Actor, Entry, Event, Inner};
 use tp_script::Script;
 
-/// Enters one step after the other until nothing is pending: the oldest output that isn't delivered,
-/// else the first actor's own step. The actors are the script's, in the order of its roster.
+/// Enters one step after the other until nothing is pending: each is the one that the next pick
+/// chooses. The actors are the script's, in the order of its roster.
 pub fn drive<A: Actor>(
+    alloc: Global,
     script: &Script,
     journal: &mut Journal,
     actors: &mut [A],
@@ -27,8 +28,8 @@ pub fn drive<A: Actor>(
     ensures quiet { OnOk result (IsQuiet script.now journal.new) }
     ensures cast { OnOk result (AllStand A.identity_of A.is_spent A.stands script.now actors.new journal.new) }
 {
-    let mut front = Front::new();
-    while turn(script, journal, &mut front, actors)? {}
+    let mut waiting = Waiting::new(alloc);
+    while turn(script, journal, &mut waiting, actors)? {}
     Ok(())
 }
 
@@ -36,61 +37,60 @@ pub fn drive<A: Actor>(
 fn turn<A: Actor>(
     script: &Script,
     journal: &mut Journal,
-    front: &mut Front,
+    waiting: &mut Waiting,
     actors: &mut [A],
 ) -> Result<bool, NoMemory>
     requires served { IsServed script.now }
     requires driven { IsDriven script.now journal.old }
-    requires front { IsFront script.now front.old journal.old }
+    requires waiting { IsWaiting script.now waiting.old journal.old }
     requires cast { AllStand A.identity_of A.is_spent A.stands script.now actors.old journal.old }
     ensures driven { IsDriven script.now journal.new }
-    ensures front { OnOk result (IsFront script.now front.new journal.new) }
+    ensures waiting { OnOk result (IsWaiting script.now waiting.new journal.new) }
     ensures cast { OnOk result (AllStand A.identity_of A.is_spent A.stands script.now actors.new journal.new) }
     ensures falls { IfOk result (λ went. IsTrue went → left script.now (reverse journal.new) < left script.now (reverse journal.old)) }
     ensures quiet { IfOk result (λ went. went ≡ false → IsQuiet script.now journal.new) }
 {
-    if let Some((entry, place)) = front.take(journal) {
-        deliver(script, journal, actors, entry, place)?;
-        return Ok(true);
+    match choose(script, journal, waiting, actors) {
+        Some(Chosen::Output(i)) => deliver(script, journal, waiting, actors, i)?,
+        Some(Chosen::Own(actor, inner)) => fire(script, journal, waiting, actors, actor, inner)?,
+        None => return Ok(false),
     }
-    match next_own(actors) {
-        Some((actor, inner)) => {
-            fire(script, journal, actors, actor, inner)?;
-            Ok(true)
-        }
-        None => Ok(false),
-    }
+    Ok(true)
 }
 
-// An output's addressee takes it.
+// The addressee of an output that waits takes it.
 fn deliver<A: Actor>(
     script: &Script,
     journal: &mut Journal,
+    waiting: &mut Waiting,
     actors: &mut [A],
-    entry: u64,
-    place: u64,
+    i: usize,
 ) -> Result<(), NoMemory>
     requires served { IsServed script.now }
     requires driven { IsDriven script.now journal.old }
+    requires waiting { IsWaiting script.now waiting.old journal.old }
     requires cast { AllStand A.identity_of A.is_spent A.stands script.now actors.old journal.old }
-    requires next { ComesNext script.now journal.old entry place }
+    requires next { ComesNext script.now journal.old i }
     ensures driven { IsDriven script.now journal.new }
-    ensures more { OnOk result (IsOneMore journal.old journal.new (Event.Deliver entry place)) }
+    ensures more { OnOk result (IsOneMore journal.old journal.new) }
+    ensures waiting { OnOk result (IsWaiting script.now waiting.new journal.new) }
     ensures cast { OnOk result (AllStand A.identity_of A.is_spent A.stands script.now actors.new journal.new) }
 {
+    let (entry, place) = waiting.take(i);
     let Some(message) = journal.output(entry, place) else {
-        return Ok(());
+        return Err(NoMemory);
     };
     let to = message.to;
     let home = place_of(script, to);
     prove!(home < actors.len());
     let actor = &mut actors[home];
     let outputs = actor.deliver(message)?;
-    journal.enter(Entry {
+    let step = Entry {
         actor: to,
         event: Event::Deliver { entry, place },
         outputs,
-    })?;
+    };
+    enter(journal, waiting, step)?;
     Ok(())
 }
 
@@ -98,39 +98,42 @@ fn deliver<A: Actor>(
 fn fire<A: Actor>(
     script: &Script,
     journal: &mut Journal,
+    waiting: &mut Waiting,
     actors: &mut [A],
     name: ActorName,
     inner: Inner,
 ) -> Result<(), NoMemory>
     requires served { IsServed script.now }
     requires driven { IsDriven script.now journal.old }
+    requires waiting { IsWaiting script.now waiting.old journal.old }
     requires cast { AllStand A.identity_of A.is_spent A.stands script.now actors.old journal.old }
     requires next { MayMakeNext script.now journal.old name inner }
     ensures driven { IsDriven script.now journal.new }
-    ensures more { OnOk result (IsOneMore journal.old journal.new (Event.Inner inner)) }
+    ensures more { OnOk result (IsOneMore journal.old journal.new) }
+    ensures waiting { OnOk result (IsWaiting script.now waiting.new journal.new) }
     ensures cast { OnOk result (AllStand A.identity_of A.is_spent A.stands script.now actors.new journal.new) }
 {
     let home = place_of(script, name);
     prove!(home < actors.len());
     let actor = &mut actors[home];
     let outputs = actor.fire(inner)?;
-    journal.enter(Entry {
+    let step = Entry {
         actor: name,
         event: Event::Inner(inner),
         outputs,
-    })?;
+    };
+    enter(journal, waiting, step)?;
     Ok(())
 }
 
-// The first actor's own step.
-fn next_own<A: Actor>(actors: &[A]) -> Option<(ActorName, Inner)>
-    ensures some { (script : Script) (journal : List Entry) → AllStand A.identity_of A.is_spent A.stands script actors.now journal → IfSome result (λ own. IsFirstOwn script journal own.0 own.1) }
-    ensures none { (script : Script) (journal : List Entry) → AllStand A.identity_of A.is_spent A.stands script actors.now journal → result ≡ None → own_steps script journal ≡ [] }
+// Enters a step, whose outputs wait from then on.
+fn enter(journal: &mut Journal, waiting: &mut Waiting, step: Entry) -> Result<(), NoMemory>
+    ensures entered { OnOk result (journal.new ≡ journal.old ++ step ∷ []) }
+    ensures waiting { OnOk result (waiting.new ≡ waiting.old ++ places_of (suc (length journal.old)) (length step.outputs)) }
+    ensures same { OnErr result (journal.new ≡ journal.old) }
 {
-    for actor in actors {
-        if let Some(inner) = actor.next_inner() {
-            return Some((actor.name(), inner));
-        }
-    }
-    None
+    let number = journal.entries().len() as u64 + 1;
+    waiting.add(number, step.outputs.len())?;
+    journal.enter(step)?;
+    Ok(())
 }

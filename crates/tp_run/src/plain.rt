@@ -187,7 +187,7 @@ fn run(alloc: Global, script: &Script, journal: &mut Journal) -> Result<Bytes, C
     let Ok(mut actors) = cast(alloc, script) else {
         return Err(Cause::Memory);
     };
-    if drive(script, journal, actors.as_mut_slice()).is_err() {
+    if drive(alloc, script, journal, actors.as_mut_slice()).is_err() {
         return Err(Cause::Memory);
     }
     match report(alloc, script, journal.entries()) {
