@@ -1,0 +1,27 @@
+-- Lines and their words.
+use Rattle.std.specs.List.{slice_split}
+use Rattle.std.specs.Prelude.{ℕ, ◌==◌, List, [], ◌∷◌}
+use Rattle.tp_text.specs.declared.lines.LineFault.{LineFault}
+use Rattle.tp_text.specs.declared.lines.LineFault.TheVariants.{AtEnd, Unended}
+
+-- the pieces round each byte of a value
+abbrev pub pieces : ℕ → List ℕ → List (List ℕ)
+pieces mark bytes = slice_split (λ b. b == mark) bytes
+
+-- the pieces round each space: an empty piece is a word too
+abbrev pub words_of : List ℕ → List (List ℕ)
+words_of line = pieces 32 line
+
+-- the lines, each ended by 0A, and last what stands behind the last 0A, which is no line
+abbrev pub lines_of : List ℕ → List (List ℕ)
+lines_of bytes = pieces 10 bytes
+
+-- what is left of an input, and how many of its lines were taken
+pub record Input : Type 0 where
+  pub left : List ℕ
+  pub count : ℕ
+
+-- why no line follows
+abbrev pub end_fault : List ℕ → LineFault
+end_fault [] = AtEnd
+end_fault (b ∷ bytes) = Unended
