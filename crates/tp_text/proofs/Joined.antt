@@ -12,14 +12,14 @@ use Rattle.tp_text.specs.Writing.{line_text, lines_text}
 abbrev pub IsPlain : List ℕ → Type 0
 IsPlain word = Each (λ b. 32 < b) word
 
-abbrev IsApart : ℕ → List ℕ → Type 0
+abbrev pub IsApart : ℕ → List ℕ → Type 0
 IsApart mark word = Each (λ b. (b == mark) ≡ false) word
 
-pieces_one : (mark : ℕ) (word : List ℕ) → IsApart mark word → pieces mark word ≡ word ∷ []
+pub pieces_one : (mark : ℕ) (word : List ℕ) → IsApart mark word → pieces mark word ≡ word ∷ []
 pieces_one mark [] e = refl
 pieces_one mark (b ∷ word) e = slice_split-cons_no (λ b. b == mark) b word e.0 ∙ ap (onto_first b) (pieces_one mark word e.1)
 
-pieces_at : (mark : ℕ) (word rest : List ℕ) → IsApart mark word → pieces mark (word ++ mark ∷ rest) ≡ word ∷ pieces mark rest
+pub pieces_at : (mark : ℕ) (word rest : List ℕ) → IsApart mark word → pieces mark (word ++ mark ∷ rest) ≡ word ∷ pieces mark rest
 pieces_at mark [] rest e = slice_split-cons_yes (λ b. b == mark) mark rest (eq-eqb mark mark refl)
 pieces_at mark (b ∷ word) rest e = slice_split-cons_no (λ b. b == mark) b (word ++ mark ∷ rest) e.0 ∙ ap (onto_first b) (pieces_at mark word rest e.1)
 

@@ -5,3 +5,4 @@ pub mod Joined
 pub mod Stepped
 pub mod Rowed
 pub mod Plain
+pub mod Halved

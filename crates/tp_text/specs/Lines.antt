@@ -1,6 +1,6 @@
 -- Lines and their words.
 use Rattle.std.specs.List.{slice_split}
-use Rattle.std.specs.Prelude.{ℕ, ◌==◌, List, [], ◌∷◌}
+use Rattle.std.specs.Prelude.{ℕ, ◌==◌, List, [], ◌∷◌, Option, Some, None}
 use Rattle.tp_text.specs.declared.lines.LineFault.{LineFault}
 use Rattle.tp_text.specs.declared.lines.LineFault.TheVariants.{AtEnd, Unended}
 
@@ -15,6 +15,14 @@ words_of line = pieces 32 line
 -- the lines, each ended by 0A, and last what stands behind the last 0A, which is no line
 abbrev pub lines_of : List ℕ → List (List ℕ)
 lines_of bytes = pieces 10 bytes
+
+abbrev pub two_of : List (List ℕ) → Option (List ℕ × List ℕ)
+two_of (a ∷ b ∷ []) = Some (a, b)
+two_of _ = None
+
+-- the pieces round a byte of a value, where there is one such byte
+unfoldable pub halves : ℕ → List ℕ → Option (List ℕ × List ℕ)
+halves mark word = two_of (pieces mark word)
 
 -- what is left of an input, and how many of its lines were taken
 pub record Input : Type 0 where

@@ -1,6 +1,6 @@
-ghost use Rattle.std.specs.Prelude.{◌≡◌, ◌<◌, ◌+◌, ◌==◌, ◌∷◌, [], length, MatchOption, IfSome};
+ghost use Rattle.std.specs.Prelude.{◌≡◌, ◌<◌, ◌+◌, ◌==◌, ◌∷◌, [], length, Some, None, MatchOption, IfSome};
 ghost use Rattle.std.specs.List.{position};
-ghost use Rattle.tp_text.specs.Lines.{pieces};
+ghost use Rattle.tp_text.specs.Lines.{halves, pieces};
 
 fn place_of(bytes: &[u8], mark: u8) -> Option<usize>
     ensures { result ≡ position (λ b. b == mark) bytes.now }
@@ -16,5 +16,17 @@ pub(crate) fn cut(bytes: &[u8], mark: u8) -> Option<(&[u8], &[u8])>
     match place_of(bytes, mark) {
         Some(place) => Some((&bytes[..place], &bytes[place + 1..])),
         None => None,
+    }
+}
+
+/// What stands before and behind the only byte of a value.
+#[tactic(auto, unfolding(crate::specs::Lines::halves))]
+pub fn halves(word: &[u8], mark: u8) -> Option<(&[u8], &[u8])>
+    ensures { MatchOption result (halves mark word.now ≡ None) (λ p. halves mark word.now ≡ Some (p.0.now, p.1.now)) }
+{
+    let (before, behind) = cut(word, mark)?;
+    match cut(behind, mark) {
+        Some(_) => None,
+        None => Some((before, behind)),
     }
 }

@@ -10,6 +10,7 @@ mod tests;
 mod words;
 mod written;
 
+pub use cut::halves;
 pub use hexadecimal::{HexFault, hex};
 pub use lines::{LineFault, Lines};
 pub use numbers::{NumberFault, number};

@@ -1,0 +1,25 @@
+-- What a function that reads returned, seen by a view, is what the definition gives, unless memory ran out.
+use Rattle.std.specs.Prelude.{◌≡◌, Result, Ok, Err}
+use Rattle.tp_script.specs.declared.fault.Refusal.{Refusal}
+use Rattle.tp_script.specs.declared.fault.Refusal.TheVariants as refusals
+use Rattle.tp_script.specs.declared.fault.ScriptCause.{ScriptCause}
+use Rattle.tp_script.specs.declared.fault.ScriptError.{ScriptError}
+use Rattle.tp_script.specs.declared.fault.ScriptError.TheVariants as errors
+use Rattle.tp_script.specs.declared.fault.ScriptFault.{ScriptFault}
+
+abbrev pub Fails : {Y : Type 0} → Refusal → Result Y ScriptCause → Type 0
+Fails refusals.Memory read = Unit {0}
+Fails (refusals.Cause cause) read = read ≡ Err cause
+
+abbrev pub Gives : {X Y : Type 0} → (X → Y) → Result X Refusal → Result Y ScriptCause → Type 0
+Gives view (Ok x) read = read ≡ Ok (view x)
+Gives view (Err e) read = Fails e read
+
+-- the same with the line of a fault
+abbrev pub FailsAt : {Y : Type 0} → ScriptError → Result Y ScriptFault → Type 0
+FailsAt errors.NoMemory read = Unit {0}
+FailsAt (errors.Fault fault) read = read ≡ Err fault
+
+abbrev pub Reads : {X Y : Type 0} → (X → Y) → Result X ScriptError → Result Y ScriptFault → Type 0
+Reads view (Ok x) read = read ≡ Ok (view x)
+Reads view (Err e) read = FailsAt e read
