@@ -1,10 +1,14 @@
 //! Scripts: the shape, the sessions with their commands, the plan of what goes wrong, and the picks.
 #![tactic(auto)]
 
+mod commands;
 mod draft;
 mod fault;
 mod names;
+mod operations;
+mod plan;
 mod script;
+mod setup;
 mod words;
 
 pub use fault::{ScriptCause, ScriptError, ScriptFault};

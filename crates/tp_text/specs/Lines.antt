@@ -1,6 +1,6 @@
 -- Lines and their words.
 use Rattle.std.specs.List.{slice_split}
-use Rattle.std.specs.Prelude.{ℕ, ◌==◌, List, [], ◌∷◌, Option, Some, None}
+use Rattle.std.specs.Prelude.{ℕ, ◌==◌, ◌≡◌, List, [], ◌∷◌, Option, Some, None}
 use Rattle.tp_text.specs.declared.lines.LineFault.{LineFault}
 use Rattle.tp_text.specs.declared.lines.LineFault.TheVariants.{AtEnd, Unended}
 
@@ -11,6 +11,10 @@ pieces mark bytes = slice_split (λ b. b == mark) bytes
 -- the pieces round each space: an empty piece is a word too
 abbrev pub words_of : List ℕ → List (List ℕ)
 words_of line = pieces 32 line
+
+-- the word is the first of the words
+abbrev pub IsFirst : List ℕ → List (List ℕ) → Type 0
+IsFirst word words = (others : List (List ℕ)) × (words ≡ word ∷ others)
 
 -- the lines, each ended by 0A, and last what stands behind the last 0A, which is no line
 abbrev pub lines_of : List ℕ → List (List ℕ)

@@ -1,5 +1,5 @@
 ghost use Rattle.std.specs.Prelude.{◌≡◌, ◌∷◌, [], MatchOption, IfNone};
-ghost use Rattle.tp_text.specs.Lines.{words_of};
+ghost use Rattle.tp_text.specs.Lines.{IsFirst, words_of};
 
 use crate::cut::cut;
 use std::marker::Model;
@@ -28,6 +28,19 @@ impl<'a> Words<'a> {
         Words {
             rest: line,
             more: true,
+        }
+    }
+
+    /// The next word, which stays the next.
+    pub fn peek(&self) -> Option<&'a [u8]>
+        ensures { MatchOption result (self.now ≡ []) (λ w. IsFirst w.now self.now) }
+    {
+        if !self.more {
+            return None;
+        }
+        match cut(self.rest, b' ') {
+            Some((word, _)) => Some(word),
+            None => Some(self.rest),
         }
     }
 
