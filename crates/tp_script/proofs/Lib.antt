@@ -1,1 +1,2 @@
 pub mod OpsRead
+pub mod LinesRead

@@ -7,6 +7,7 @@ use Rattle.tp_script.specs.declared.draft.Draft.{Draft}
 use Rattle.tp_script.specs.declared.fault.ScriptCause.{ScriptCause}
 use Rattle.tp_script.specs.declared.fault.ScriptCause.TheVariants.{Header, Newer, Missing, Word}
 use Rattle.tp_script.specs.declared.fault.ScriptFault.{ScriptFault}
+use Rattle.tp_script.specs.declared.script.PlanLine.{PlanLine}
 use Rattle.tp_script.specs.declared.script.Script.{Script}
 use Rattle.tp_text.specs.Lines.{words_of}
 use Rattle.tp_text.specs.Numbers.{number_of}
@@ -40,16 +41,22 @@ stands draft group name word = bytes_eq word name && nat_le draft.group group
 abbrev pub in_group : ℕ → Script → Bool × Draft
 in_group group script = (true, record { group = group; script = script })
 
+abbrev pub into_group : ℕ → Result Script ScriptCause → Result (Bool × Draft) ScriptCause
+into_group group read = read >>= λ script. Ok (in_group group script)
+
+abbrev pub into_plan : Draft → Result PlanLine ScriptCause → Result (Bool × Draft) ScriptCause
+into_plan draft read = read >>= λ line. into_group 3 (with_plan draft.script line)
+
 -- whether more lines follow, and the lines so far
 unfoldable pub begun : Draft → List ℕ → List (List ℕ) → Result (Bool × Draft) ScriptCause
 begun draft word words =
-    if stands draft 1 (codes "session") word then (session_line draft.script words >>= λ s. Ok (in_group 1 s))
-    else (if stands draft 2 (codes "command") word then (command_line draft.script words >>= λ s. Ok (in_group 2 s))
-    else (if stands draft 3 (codes "crash") word then (crash_line draft.script words >>= λ l. with_plan draft.script l >>= λ s. Ok (in_group 3 s))
-    else (if stands draft 3 (codes "recover") word then (recover_line draft.script words >>= λ l. with_plan draft.script l >>= λ s. Ok (in_group 3 s))
-    else (if stands draft 3 (codes "drop") word then (drop_line draft.script words >>= λ l. with_plan draft.script l >>= λ s. Ok (in_group 3 s))
-    else (if stands draft 3 (codes "repeat") word then (repeat_line draft.script words >>= λ l. with_plan draft.script l >>= λ s. Ok (in_group 3 s))
-    else (if stands draft 4 (codes "pick") word then (pick_line draft.script words >>= λ s. Ok (in_group 4 s))
+    if stands draft 1 (codes "session") word then into_group 1 (session_line draft.script words)
+    else (if stands draft 2 (codes "command") word then into_group 2 (command_line draft.script words)
+    else (if stands draft 3 (codes "crash") word then into_plan draft (crash_line draft.script words)
+    else (if stands draft 3 (codes "recover") word then into_plan draft (recover_line draft.script words)
+    else (if stands draft 3 (codes "drop") word then into_plan draft (drop_line draft.script words)
+    else (if stands draft 3 (codes "repeat") word then into_plan draft (repeat_line draft.script words)
+    else (if stands draft 4 (codes "pick") word then into_group 4 (pick_line draft.script words)
     else (if bytes_eq word (codes "end") then (no_word words >>= λ _. Ok (false, draft))
     else Err Word)))))))
 
@@ -87,11 +94,23 @@ lines_from n draft (line ∷ lines) = do
 abbrev pub shaped : StoreShape → Draft
 shaped shape = record { group = 0; script = record { topology = shape; homes = []; commands = []; plan = []; picks = [] } }
 
+-- line n as the first line, and the lines behind it
+unfoldable pub header_at : ℕ → List (List ℕ) → Result (List (List ℕ)) ScriptFault
+header_at n lines = do
+  line ← ended_line n Header lines
+  at_line n (header_line (words_of line.0))
+  Ok line.1
+
+-- line n as the second line: the shape, and the lines behind it
+unfoldable pub shape_at : ℕ → List (List ℕ) → Result (StoreShape × List (List ℕ)) ScriptFault
+shape_at n lines = do
+  line ← ended_line n Missing lines
+  shape ← at_line n (shape_begun (words_of line.0))
+  Ok (shape, line.1)
+
 -- a script whose first line has the number n
 unfoldable pub script_at : ℕ → List (List ℕ) → Result (Script × List (List ℕ)) ScriptFault
 script_at n lines = do
-  first ← ended_line n Header lines
-  at_line n (header_line (words_of first.0))
-  second ← ended_line (n + 1) Missing first.1
-  shape ← at_line (n + 1) (shape_begun (words_of second.0))
-  lines_from (n + 2) (shaped shape) second.1
+  first ← header_at n lines
+  second ← shape_at (n + 1) first
+  lines_from (n + 2) (shaped second.0) second.1

@@ -1,5 +1,5 @@
 -- What a function that reads returned, seen by a view, is what the definition gives, unless memory ran out.
-use Rattle.std.specs.Prelude.{◌≡◌, Result, Ok, Err}
+use Rattle.std.specs.Prelude.{◌≡◌, ℕ, List, ◌∷◌, Result, Ok, Err}
 use Rattle.tp_script.specs.declared.fault.Refusal.{Refusal}
 use Rattle.tp_script.specs.declared.fault.Refusal.TheVariants as refusals
 use Rattle.tp_script.specs.declared.fault.ScriptCause.{ScriptCause}
@@ -23,3 +23,7 @@ FailsAt (errors.Fault fault) read = read ≡ Err fault
 abbrev pub Reads : {X Y : Type 0} → (X → Y) → Result X ScriptError → Result Y ScriptFault → Type 0
 Reads view (Ok x) read = read ≡ Ok (view x)
 Reads view (Err e) read = FailsAt e read
+
+-- one line was taken off
+abbrev pub IsTail : List (List ℕ) → List (List ℕ) → Type 0
+IsTail before behind = (line : List ℕ) × (before ≡ line ∷ behind)

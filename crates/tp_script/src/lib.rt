@@ -4,9 +4,11 @@
 mod commands;
 mod draft;
 mod fault;
+mod line;
 mod names;
 mod operations;
 mod plan;
+mod reader;
 mod script;
 mod setup;
 mod words;
