@@ -1,2 +1,3 @@
 pub mod OpsRead
 pub mod LinesRead
+pub mod Kinded
