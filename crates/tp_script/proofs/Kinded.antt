@@ -44,7 +44,7 @@ IsKind (site shape) = IsShape shape
 IsKind (id commands) = Each (λ c. IsId c.id) commands
 IsKind (actor shape sessions) = IsShape shape × (sessions ≤ 16)
 
-same_bytes : (xs ys : List ℕ) → bytes_eq xs ys ≡ true → xs ≡ ys
+pub same_bytes : (xs ys : List ℕ) → bytes_eq xs ys ≡ true → xs ≡ ys
 same_bytes xs ys e = (bytes_eq-Decides xs ys).0 e
 
 pub bytes_same : (xs : List ℕ) → bytes_eq xs xs ≡ true
@@ -260,7 +260,7 @@ kind_again (site shape) kind said fits = site_written shape said kind fits
 kind_again (id commands) kind said fits = id_written commands said kind fits
 kind_again (actor shape sessions) kind said fits = actor_written shape sessions said kind.0 kind.1 fits
 
-value_plain : (bytes : List ℕ) → IsValue bytes → IsPlain (value_word bytes)
+pub value_plain : (bytes : List ℕ) → IsValue bytes → IsPlain (value_word bytes)
 value_plain [] fits = (omega arith, tt)
 value_plain (b ∷ bytes) fits = hex_plain (b ∷ bytes) fits.1
 

@@ -1,3 +1,4 @@
 pub mod OpsRead
 pub mod LinesRead
 pub mod Kinded
+pub mod OpsWritten
