@@ -50,7 +50,7 @@ same_bytes xs ys e = (bytes_eq-Decides xs ys).0 e
 pub bytes_same : (xs : List ℕ) → bytes_eq xs xs ≡ true
 bytes_same xs = (bytes_eq-Decides xs xs).1 refl
 
-in_range : (low high n : ℕ) → is_from low high n ≡ true → IsFrom low high n
+pub in_range : (low high n : ℕ) → is_from low high n ≡ true → IsFrom low high n
 in_range low high n e =
     let parts = and_parts (leb low n) (leb n high) e in
     (leb-true _ _ parts.0, leb-true _ _ parts.1)

@@ -2,3 +2,6 @@ pub mod OpsRead
 pub mod LinesRead
 pub mod Kinded
 pub mod OpsWritten
+pub mod Grown
+pub mod PlanGrown
+pub mod Found

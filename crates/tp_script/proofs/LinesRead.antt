@@ -31,7 +31,7 @@ line_taken n cause line old rest e = ap (ended_line n cause) e ∙ with_end n ca
 abbrev pub unread : Bool → ℕ → Draft → Pieces → Answer
 unread more n draft lines = if more then lines_from n draft lines else Ok (draft.script, lines)
 
-step : (n : ℕ) (draft : Draft) (line : List ℕ) (lines : Pieces)
+pub step : (n : ℕ) (draft : Draft) (line : List ℕ) (lines : Pieces)
     → lines_from n draft (line ∷ lines) ≡ (one_line n draft (line ∷ lines) >>= λ more. unread more.0 (n + 1) more.1 lines)
 unfolding lines_from
 step n draft line lines = refl
