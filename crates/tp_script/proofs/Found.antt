@@ -180,7 +180,7 @@ one_is n d line lines x e =
     let same : line ≡ a.0.0 = let both = ended_is n Missing (line ∷ lines) a.0 a.1 in cc in
     ap (λ (l : List ℕ). line_of d (words_of l)) same ∙ at_ok n (line_of d (words_of a.0.0)) x a.2
 
-abbrev joined : List Words → Words
+abbrev pub joined : List Words → Words
 joined lines = map (join_with_byte 32) lines
 
 -- the lines that were read, the last of them `end`
@@ -235,7 +235,7 @@ no_version : (b : Bool) (u : Unit {0}) → cond b (Err Newer) (Err Header) ≡ p
 no_version true u e = cc
 no_version false u e = cc
 
-one_text : decimal 1 ≡ codes "1"
+pub one_text : decimal 1 ≡ codes "1"
 one_text = decimal_digit 1 (omega arith)
 
 version_is : (r : Result ℕ NumberFault) (u : Unit {0}) → version r ≡ Ok u → r ≡ Ok 1

@@ -61,7 +61,7 @@ session_push n (h ∷ homes) home =
     let same : suc n + length homes ≡ n + suc (length homes) = omega arith in
     ap (λ (x : List Words). session_words n h ∷ x) (session_push (suc n) homes home ∙ ap (λ (k : ℕ). session_lines (suc n) homes ++ session_words k home ∷ []) same)
 
-abbrev with_home : Script → ℕ → Script
+abbrev pub with_home : Script → ℕ → Script
 with_home script home = record script { homes = script.homes ++ record { 0 = home } ∷ [] }
 
 session_body : (script : Script) (home : ℕ) → script.commands ≡ [] → script.plan ≡ [] → script.picks ≡ []
@@ -85,7 +85,7 @@ session_accepted script home ok c p few range = record {
   picks = ok.picks;
 }
 
-two_counts : Each IsKind (count ∷ count ∷ [])
+pub two_counts : Each IsKind (count ∷ count ∷ [])
 two_counts = (omega arith, (omega arith, tt))
 
 pub session_grows : (script after : Script) (words : Words) → IsAccepted script → script.commands ≡ [] → script.plan ≡ [] → script.picks ≡ [] → session_line script words ≡ Ok after
@@ -115,7 +115,7 @@ length-filter_le p (x ∷ xs) = go (p x) (length-filter_le p xs)
     go true le = omega (arith, le)
     go false le = omega (arith, le)
 
-abbrev is_by : ℕ → Command → Bool
+abbrev pub is_by : ℕ → Command → Bool
 is_by s c = c.id.session.0 == s
 
 numbered_after : (s : ℕ) (commands : List Command) (c : Command) (b : Bool) → is_by s c ≡ b → AreNumbered commands s → (b ≡ true → c.id.number ≡ suc (length (commands_by s commands)))

@@ -5,3 +5,4 @@ pub mod OpsWritten
 pub mod Grown
 pub mod PlanGrown
 pub mod Found
+pub mod LinesAgain

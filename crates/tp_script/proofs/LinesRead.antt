@@ -19,7 +19,7 @@ abbrev Answer : Type 0
 Answer = Result (Script × Pieces) ScriptFault
 
 -- a line with lines behind it
-with_end : (n : ℕ) (cause : ScriptCause) (line : List ℕ) (lines : Pieces) → 0 < length lines → ended_line n cause (line ∷ lines) ≡ Ok (line, lines)
+pub with_end : (n : ℕ) (cause : ScriptCause) (line : List ℕ) (lines : Pieces) → 0 < length lines → ended_line n cause (line ∷ lines) ≡ Ok (line, lines)
 unfolding ended_line
 with_end n cause line [] some = absurd (omega arith)
 with_end n cause line (next ∷ lines) some = refl

@@ -45,6 +45,15 @@ actor_in script (SessionOf s) fits = fits
 ids_of : (homes : List Rank) (commands : List Command) → Each (IsCommandOf homes) commands → Each (λ c. IsId c.id) commands
 ids_of homes commands fit = each_weaker (IsCommandOf homes) (λ (c : Command). IsId c.id) (λ c h. h.0.0) commands fit
 
+-- what the kinds of a plan line's words stand on
+pub record IsBase (script : Script) : Type 0 where
+  pub shape : IsShape script.topology
+  pub sessions : length script.homes ≤ 16
+  pub commands : Each (IsCommandOf script.homes) script.commands
+
+pub base_of : (script : Script) → IsAccepted script → IsBase script
+base_of script ok = record { shape = ok.shape; sessions = ok.sessions; commands = ok.commands }
+
 abbrev pub crash_kinds : Script → List Kind
 crash_kinds script = site script.topology ∷ literal (codes "after") ∷ count ∷ []
 
@@ -60,16 +69,16 @@ drop_kinds script = actor_kind script ∷ actor_kind script ∷ ordinal ∷ []
 abbrev pub repeat_kinds : Script → List Kind
 repeat_kinds script = actor_kind script ∷ actor_kind script ∷ ordinal ∷ times ∷ []
 
-pub crash_fit : (script : Script) → IsAccepted script → Each IsKind (crash_kinds script)
+pub crash_fit : (script : Script) → IsBase script → Each IsKind (crash_kinds script)
 crash_fit script ok = (ok.shape, (plain_by (codes "after") refl, (omega arith, tt)))
 
-pub recover_fit : (script : Script) → IsAccepted script → Each IsKind (recover_kinds script)
+pub recover_fit : (script : Script) → IsBase script → Each IsKind (recover_kinds script)
 recover_fit script ok = (ok.shape, (ids_of script.homes script.commands ok.commands, (plain_by (codes "after") refl, (omega arith, tt))))
 
-pub drop_fit : (script : Script) → IsAccepted script → Each IsKind (drop_kinds script)
+pub drop_fit : (script : Script) → IsBase script → Each IsKind (drop_kinds script)
 drop_fit script ok = ((ok.shape, ok.sessions), ((ok.shape, ok.sessions), (omega arith, tt)))
 
-pub repeat_fit : (script : Script) → IsAccepted script → Each IsKind (repeat_kinds script)
+pub repeat_fit : (script : Script) → IsBase script → Each IsKind (repeat_kinds script)
 repeat_fit script ok = ((ok.shape, ok.sessions), ((ok.shape, ok.sessions), (omega arith, (omega arith, tt))))
 
 -- ---- a plan line that was read is written so, and is one of the script
@@ -83,7 +92,7 @@ pub crash_says : (script : Script) (words : Words) (line : PlanLine) → IsAccep
 unfolding crash_line
 crash_says script words line ok e =
     let a = bind_ok (row (crash_kinds script) words) (λ said. Ok (Crash said.0 said.1.1.0)) line e in
-    let w = row_is (crash_kinds script) (crash_fit script ok) words a.0 a.1 in
+    let w = row_is (crash_kinds script) (crash_fit script (base_of script ok)) words a.0 a.1 in
     subst (Says script (codes "crash") words) (ok_is ScriptCause (Crash a.0.0 a.0.1.1.0) line a.2) (record {
       written = ap (λ (x : Words). codes "crash" ∷ x) w.0;
       fits = (w.1.0, omega (arith, w.1.1.1.0.1));
@@ -93,7 +102,7 @@ pub recover_says : (script : Script) (words : Words) (line : PlanLine) → IsAcc
 unfolding recover_line
 recover_says script words line ok e =
     let a = bind_ok (row (recover_kinds script) words) (λ said. Ok (Recover said.0 said.1.0 said.1.1.1.0)) line e in
-    let w = row_is (recover_kinds script) (recover_fit script ok) words a.0 a.1 in
+    let w = row_is (recover_kinds script) (recover_fit script (base_of script ok)) words a.0 a.1 in
     subst (Says script (codes "recover") words) (ok_is ScriptCause (Recover a.0.0 a.0.1.0 a.0.1.1.1.0) line a.2) (record {
       written = ap (λ (x : Words). codes "recover" ∷ x) w.0;
       fits = (w.1.0, w.1.1.0, omega (arith, w.1.1.1.1.0.1));
@@ -103,7 +112,7 @@ pub drop_says : (script : Script) (words : Words) (line : PlanLine) → IsAccept
 unfolding drop_line
 drop_says script words line ok e =
     let a = bind_ok (row (drop_kinds script) words) (λ said. Ok (Lose said.0 said.1.0 said.1.1.0)) line e in
-    let w = row_is (drop_kinds script) (drop_fit script ok) words a.0 a.1 in
+    let w = row_is (drop_kinds script) (drop_fit script (base_of script ok)) words a.0 a.1 in
     subst (Says script (codes "drop") words) (ok_is ScriptCause (Lose a.0.0 a.0.1.0 a.0.1.1.0) line a.2) (record {
       written = ap (λ (x : Words). codes "drop" ∷ x) w.0;
       fits = (actor_of script a.0.0 w.1.0, actor_of script a.0.1.0 w.1.1.0, w.1.1.1.0.0, omega (arith, w.1.1.1.0.1));
@@ -113,7 +122,7 @@ one_says : (script : Script) (words : Words) (line : PlanLine) → IsAccepted sc
 unfolding repeat_one
 one_says script words line ok e =
     let a = bind_ok (row (repeat_kinds script) words) (λ said. Ok (Repeat said.0 said.1.0 said.1.1.0 said.1.1.1.0)) line e in
-    let w = row_is (repeat_kinds script) (repeat_fit script ok) words a.0 a.1 in
+    let w = row_is (repeat_kinds script) (repeat_fit script (base_of script ok)) words a.0 a.1 in
     subst (Says script (codes "repeat") words) (ok_is ScriptCause (Repeat a.0.0 a.0.1.0 a.0.1.1.0 a.0.1.1.1.0) line a.2) (record {
       written = ap (λ (x : Words). codes "repeat" ∷ x) w.0;
       fits = (actor_of script a.0.0 w.1.0, actor_of script a.0.1.0 w.1.1.0, w.1.1.1.0.0, omega (arith, w.1.1.1.0.1), w.1.1.1.1.0);
@@ -147,7 +156,7 @@ or_none : (a b : Bool) → a ≡ false → b ≡ false → (a || b) ≡ false
 or_none true b e f = e
 or_none false b e f = f
 
-or_both : (a b : Bool) → (a || b) ≡ false → (a ≡ false) × (b ≡ false)
+pub or_both : (a b : Bool) → (a || b) ≡ false → (a ≡ false) × (b ≡ false)
 or_both true b e = let wrong : ⊥ = cc in absurd wrong
 or_both false b e = (refl, e)
 
