@@ -6,3 +6,4 @@ pub mod Grown
 pub mod PlanGrown
 pub mod Found
 pub mod LinesAgain
+pub mod TextAgain
