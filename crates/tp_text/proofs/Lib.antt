@@ -6,3 +6,4 @@ pub mod Stepped
 pub mod Rowed
 pub mod Plain
 pub mod Halved
+pub mod Spelled

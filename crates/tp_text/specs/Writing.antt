@@ -21,3 +21,13 @@ with_word text word = record { bytes = text.bytes ++ (if text.begun then 32 ∷ 
 -- with its last line ended
 abbrev pub ended : Written → Written
 ended text = record { bytes = text.bytes ++ 10 ∷ []; begun = false }
+
+-- with more words in its last line
+abbrev pub with_words : Written → List (List ℕ) → Written
+with_words text [] = text
+with_words text (word ∷ words) = with_words (with_word text word) words
+
+-- with more lines, of these words
+abbrev pub with_lines : Written → List (List (List ℕ)) → Written
+with_lines text [] = text
+with_lines text (words ∷ lines) = with_lines (ended (with_words text words)) lines

@@ -1,6 +1,6 @@
 ghost use Rattle.hex.specs.Hex.{encode_lower};
 ghost use Rattle.std.specs.Fmt.{decimal};
-ghost use Rattle.std.specs.Prelude.{◌≡◌, [], false, OnOk};
+ghost use Rattle.std.specs.Prelude.{◌≡◌, ◌++◌, ◌∷◌, [], false, OnOk};
 ghost use Rattle.tp_text.specs.Writing.{ended, with_word};
 
 use itoa::Buffer;
@@ -22,6 +22,13 @@ impl Model for Text {
     ghost Value = { Written };
 
     ghost view = { λ text. record { bytes = text.out; begun = text.begun } };
+}
+
+fn put_number(word: &mut Put, n: u64) -> Result<(), NoMemory>
+    ensures { OnOk result (word.new ≡ word.old ++ decimal n) }
+{
+    let mut buffer = Buffer::new();
+    word.bytes(buffer.format(n).as_bytes())
 }
 
 impl Text {
@@ -52,6 +59,28 @@ impl Text {
     {
         let mut buffer = Buffer::new();
         self.word(buffer.format(n).as_bytes())
+    }
+
+    /// Writes a word of two decimal numbers with a point between them, behind a mark.
+    pub fn dotted(&mut self, mark: &[u8], first: u64, second: u64) -> Result<(), NoMemory>
+        ensures { OnOk result (self.new ≡ with_word self.old (mark.now ++ (decimal first ++ 46 ∷ decimal second))) }
+    {
+        let mut word = Put::new(self.alloc);
+        word.bytes(mark)?;
+        put_number(&mut word, first)?;
+        word.byte(b'.')?;
+        put_number(&mut word, second)?;
+        self.word(word.finish().as_slice())
+    }
+
+    /// Writes a word of a decimal number behind a mark.
+    pub fn marked(&mut self, mark: &[u8], n: u64) -> Result<(), NoMemory>
+        ensures { OnOk result (self.new ≡ with_word self.old (mark.now ++ decimal n)) }
+    {
+        let mut word = Put::new(self.alloc);
+        word.bytes(mark)?;
+        put_number(&mut word, n)?;
+        self.word(word.finish().as_slice())
     }
 
     /// Writes bytes as a hexadecimal word.
