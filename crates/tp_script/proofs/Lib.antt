@@ -7,3 +7,4 @@ pub mod PlanGrown
 pub mod Found
 pub mod LinesAgain
 pub mod TextAgain
+pub mod ScriptLaws

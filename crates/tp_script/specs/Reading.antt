@@ -1,11 +1,13 @@
 -- What a function that reads returned, seen by a view, is what the definition gives, unless memory ran out.
-use Rattle.std.specs.Prelude.{◌≡◌, ℕ, List, ◌∷◌, Result, Ok, Err}
+use Rattle.std.specs.Prelude.{◌≡◌, ℕ, ◌+◌, List, ◌∷◌, length, Result, Ok, Err}
 use Rattle.tp_script.specs.declared.fault.Refusal.{Refusal}
 use Rattle.tp_script.specs.declared.fault.Refusal.TheVariants as refusals
 use Rattle.tp_script.specs.declared.fault.ScriptCause.{ScriptCause}
 use Rattle.tp_script.specs.declared.fault.ScriptError.{ScriptError}
 use Rattle.tp_script.specs.declared.fault.ScriptError.TheVariants as errors
 use Rattle.tp_script.specs.declared.fault.ScriptFault.{ScriptFault}
+use Rattle.tp_script.specs.declared.script.Script.{Script}
+use Rattle.tp_text.specs.Lines.{Input, lines_of}
 
 abbrev pub Fails : {Y : Type 0} → Refusal → Result Y ScriptCause → Type 0
 Fails refusals.Memory read = Unit {0}
@@ -27,3 +29,13 @@ Reads view (Err e) read = FailsAt e read
 -- one line was taken off
 abbrev pub IsTail : List (List ℕ) → List (List ℕ) → Type 0
 IsTail before behind = (line : List ℕ) × (before ≡ line ∷ behind)
+
+-- all lines of an input, those that were taken and the pieces that are left
+abbrev pub all_lines : Input → ℕ
+all_lines input = input.count + length (lines_of input.left)
+
+-- the answer is this script, and this is left; or memory ran out
+abbrev pub IsReadAs : Script → List ℕ → List ℕ → Result Script ScriptError → Type 0
+IsReadAs script rest left (Ok read) = (read ≡ script) × (left ≡ rest)
+IsReadAs script rest left (Err errors.NoMemory) = Unit {0}
+IsReadAs script rest left (Err (errors.Fault fault)) = ⊥

@@ -1,8 +1,11 @@
-ghost use Rattle.std.specs.Prelude.{◌≡◌, ◌≤◌, ◌+◌, ◌∷◌, [], Err, length, IfOk, MatchOption, OnOk};
+ghost use Rattle.std.specs.Prelude.{◌≡◌, ◌≤◌, ◌+◌, ◌++◌, ◌∷◌, ℕ, List, [], Err, length, IfOk, MatchOption, OnOk};
+ghost use Rattle.tp_script.specs.Accepted.{IsAccepted};
 ghost use Rattle.tp_script.specs.Kinds.{most};
 ghost use Rattle.tp_script.specs.Meaning.{ended_line, header_at, header_line, lines_from, one_line, script_at, shape_at, shape_begun, shaped, version};
-ghost use Rattle.tp_script.specs.Reading.{Gives, IsTail, Reads};
+ghost use Rattle.tp_script.specs.Reading.{Gives, IsReadAs, IsTail, Reads, all_lines};
+ghost use Rattle.tp_script.specs.Print.{script_lines, text_of};
 ghost use Rattle.tp_script.specs.declared.fault.ScriptCause.TheVariants.{Header};
+ghost use Rattle.tp_script.specs.declared.script.Script.{Script as ScriptValue};
 ghost use Rattle.tp_text.specs.Lines.{lines_of};
 ghost use Rattle.tp_text.specs.Numbers.{number_of};
 
@@ -23,6 +26,7 @@ fn take_line<'a>(lines: &mut Lines<'a>, cause: ScriptCause) -> Result<&'a [u8], 
     ensures read { Reads (λ line. (line.now, lines_of lines.new.left)) result (ended_line (lines.old.count + 1) cause (lines_of lines.old.left)) }
     ensures rest { IfOk result (λ line. lines_of lines.old.left ≡ line.now ∷ lines_of lines.new.left) }
     ensures count { OnOk result (lines.new.count ≡ lines.old.count + 1) }
+    ensures all { OnOk result (all_lines lines.new ≡ all_lines lines.old) }
 {
     match lines.next_line() {
         Ok(line) => Ok(line),
@@ -102,6 +106,7 @@ fn read_topology(words: &mut Words) -> Result<Topology, Refusal>
 fn take_header(lines: &mut Lines) -> Result<(), ScriptError>
     ensures read { Reads (λ u. lines_of lines.new.left) result (header_at (lines.old.count + 1) (lines_of lines.old.left)) }
     ensures count { OnOk result (lines.new.count ≡ lines.old.count + 1) }
+    ensures all { OnOk result (all_lines lines.new ≡ all_lines lines.old) }
 {
     let number = lines.number() + 1;
     let line = take_line(lines, ScriptCause::Header)?;
@@ -119,6 +124,7 @@ fn take_header(lines: &mut Lines) -> Result<(), ScriptError>
 fn take_shape(lines: &mut Lines) -> Result<Topology, ScriptError>
     ensures read { Reads (λ t. (t, lines_of lines.new.left)) result (shape_at (lines.old.count + 1) (lines_of lines.old.left)) }
     ensures count { OnOk result (lines.new.count ≡ lines.old.count + 1) }
+    ensures all { OnOk result (all_lines lines.new ≡ all_lines lines.old) }
 {
     let number = lines.number() + 1;
     let line = take_line(lines, ScriptCause::Missing)?;
@@ -140,6 +146,7 @@ fn take_one(alloc: Global, lines: &mut Lines, draft: &mut Draft) -> Result<bool,
     ensures few { OnOk result (length draft.new.script.homes ≤ 16) }
     ensures rest { OnOk result (IsTail (lines_of lines.old.left) (lines_of lines.new.left)) }
     ensures count { OnOk result (lines.new.count ≡ lines.old.count + 1) }
+    ensures all { OnOk result (all_lines lines.new ≡ all_lines lines.old) }
 {
     let number = lines.number() + 1;
     let line = take_line(lines, ScriptCause::Missing)?;
@@ -158,7 +165,8 @@ fn take_lines(
     lines: &mut Lines,
     topology: Topology,
 ) -> Result<Script, ScriptError>
-    ensures { Reads (λ s. (s, lines_of lines.new.left)) result (lines_from (lines.old.count + 1) (shaped topology) (lines_of lines.old.left)) }
+    ensures read { Reads (λ s. (s, lines_of lines.new.left)) result (lines_from (lines.old.count + 1) (shaped topology) (lines_of lines.old.left)) }
+    ensures all { OnOk result (all_lines lines.new ≡ all_lines lines.old) }
 {
     let mut draft = Draft {
         group: 0,
@@ -180,9 +188,24 @@ fn take_lines(
 // What a script's lines say.
 #[tactic(auto, unfolding(crate::specs::Meaning::script_at))]
 fn read_all(alloc: Global, lines: &mut Lines) -> Result<Script, ScriptError>
-    ensures { Reads (λ s. (s, lines_of lines.new.left)) result (script_at (lines.old.count + 1) (lines_of lines.old.left)) }
+    ensures exact { Reads (λ s. (s, lines_of lines.new.left)) result (script_at (lines.old.count + 1) (lines_of lines.old.left)) }
+    ensures all { OnOk result (all_lines lines.new ≡ all_lines lines.old) }
 {
     take_header(lines)?;
     let topology = take_shape(lines)?;
     take_lines(alloc, lines, topology)
+}
+
+/// Reads a script up to its line `end`, and takes nothing more.
+pub fn read_script(alloc: Global, lines: &mut Lines) -> Result<Script, ScriptError>
+    // What is read is an accepted script, and its text stood there.
+    ensures found { IfOk result (λ s. IsAccepted s × (lines.old.left ≡ text_of s ++ lines.new.left)) }
+    // The text of an accepted script is read as it, unless memory runs out.
+    ensures only { (s : ScriptValue) (rest : List ℕ) → IsAccepted s → lines.old.left ≡ text_of s ++ rest → IsReadAs s rest lines.new.left result }
+    // A fault is the first one of the first faulty line.
+    ensures exact { Reads (λ s. (s, lines_of lines.new.left)) result (script_at (lines.old.count + 1) (lines_of lines.old.left)) }
+    // Its lines were counted.
+    ensures counted { IfOk result (λ s. lines.new.count ≡ lines.old.count + length (script_lines s)) }
+{
+    read_all(alloc, lines)
 }
