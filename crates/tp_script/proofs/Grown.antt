@@ -20,7 +20,7 @@ use Rattle.tp_ops.specs.Limits.{IsCommand, IsOp}
 use Rattle.tp_ops.specs.declared.command.Command.{Command}
 use Rattle.tp_ops.specs.declared.operation.Op.{Op}
 use Rattle.tp_script.specs.Accepted.{AreNumbered, HasNoDoubles, IsAccepted, IsActorOf, IsCommandOf, IsCount, IsHome, IsPlanLineOf, IsSiteOf, commands_by, is_double}
-use Rattle.tp_script.specs.Grammar.{command_line, crash_line, declared, drop_line, has_double, home_of, is_shape, next_command, next_number, ops_at, pick_line, recover_line, repeat_all, repeat_line, repeat_one, room, session_line, shape_line, with_plan}
+use Rattle.tp_script.specs.Grammar.{command_line, crash_line, declared, drop_line, has_double, home_of, is_shape, next_command, next_number, ops_and_count, pick_line, recover_line, repeat_all, repeat_line, repeat_one, room, session_line, shape_line, with_plan}
 use Rattle.tp_script.specs.Kinds.{IsActorIn, IsSaid, Kind, Said, AllSaid, actor, count, id, is_from, kinds, literal, most, ordinal, row, site, take_word, times}
 use Rattle.tp_script.specs.Print.{body, command_words, ops_words, pick_words, plan_words, session_lines, session_words, shape_words}
 use Rattle.tp_script.specs.declared.fault.ScriptCause.{ScriptCause}
@@ -29,7 +29,7 @@ use Rattle.tp_script.specs.declared.script.PlanLine.{PlanLine}
 use Rattle.tp_script.specs.declared.script.PlanLine.TheVariants.{Crash, Recover, Lose, Repeat, RepeatAll}
 use Rattle.tp_script.specs.declared.script.Script.{Script}
 use Rattle.tp_script.proofs.Kinded.{IsKind, in_range, laws, same_bytes}
-use Rattle.tp_script.proofs.OpsWritten.{ops_take, plain_by}
+use Rattle.tp_script.proofs.OpsWritten.{counted_take}
 use Rattle.tp_text.specs.Rows.{words_of_row}
 use Rattle.tp_text.specs.Steps.{◌>>=◌, need}
 use Rattle.tp_text.proofs.Rowed.{AreSaid, row_takes, taken}
@@ -192,27 +192,28 @@ command_accepted script s ops home ok p declared' few some fit =
       picks = ok.picks;
     }
 
-abbrev checked : Script → ℕ → List Op → Rank → Result Script ScriptCause
-checked script s ops home = need (leb (length ops) 16) (Limit (length ops) 16) >>= λ _. room (length script.commands) 1000 >>= λ _. Ok (with_command script s ops home)
+abbrev checked : Script → ℕ → List Op × ℕ → Rank → Result Script ScriptCause
+checked script s ops home = need (leb ops.1 16) (Limit ops.1 16) >>= λ _. room (length script.commands) 1000 >>= λ _. Ok (with_command script s ops.0 home)
 
-abbrev housed : Script → ℕ → List Op → Result Script ScriptCause
+abbrev housed : Script → ℕ → List Op × ℕ → Result Script ScriptCause
 housed script s ops = declared (home_of script.homes s) >>= λ home. checked script s ops home
 
 pub command_grows : (script after : Script) (words : Words) → IsAccepted script → script.plan ≡ [] → script.picks ≡ [] → command_line script words ≡ Ok after
     → Grows script after (codes "command" ∷ words) × (after.plan ≡ []) × (after.picks ≡ [])
 unfolding command_line
 command_grows script after words ok p k e =
-    let a = bind_ok (take_word count words) (λ session. ops_at (length session.1) session.1 >>= λ ops. housed script session.0 ops) after e in
+    let a = bind_ok (take_word count words) (λ session. ops_and_count session.1 >>= λ ops. housed script session.0 ops) after e in
     let t = taken kinds IsKind IsSaid laws count (omega arith) words a.0 a.1 in
-    let b = bind_ok (ops_at (length a.0.1) a.0.1) (λ ops. housed script a.0.0 ops) after a.2 in
-    let o = ops_take (length a.0.1) a.0.1 b.0 b.1 in
+    let b = bind_ok (ops_and_count a.0.1) (λ ops. housed script a.0.0 ops) after a.2 in
     let h = bind_ok (declared (home_of script.homes a.0.0)) (λ home. checked script a.0.0 b.0 home) after b.2 in
-    let n = need_ok (leb (length b.0) 16) (Limit (length b.0) 16) (room (length script.commands) 1000 >>= λ _. Ok (with_command script a.0.0 b.0 h.0)) after h.2 in
-    let r = need_ok (ltb (length script.commands) 1000) (Limit 1001 1000) (Ok (with_command script a.0.0 b.0 h.0)) after n.1 in
-    let line : codes "command" ∷ words ≡ codes "command" ∷ decimal a.0.0 ∷ ops_words b.0 = ap (λ (x : Words). codes "command" ∷ x) (t.0 ∙ ap (λ (x : Words). decimal a.0.0 ∷ x) o.0) in
-    let grown : Grows script (with_command script a.0.0 b.0 h.0) (codes "command" ∷ words) = record {
+    let n = need_ok (leb b.0.1 16) (Limit b.0.1 16) (room (length script.commands) 1000 >>= λ _. Ok (with_command script a.0.0 b.0.0 h.0)) after h.2 in
+    let r = need_ok (ltb (length script.commands) 1000) (Limit 1001 1000) (Ok (with_command script a.0.0 b.0.0 h.0)) after n.1 in
+    let few : b.0.1 ≤ 16 = leb-true _ _ n.0 in
+    let o = counted_take a.0.1 b.0 b.1 few in
+    let line : codes "command" ∷ words ≡ codes "command" ∷ decimal a.0.0 ∷ ops_words b.0.0 = ap (λ (x : Words). codes "command" ∷ x) (t.0 ∙ ap (λ (x : Words). decimal a.0.0 ∷ x) o.0.0) in
+    let grown : Grows script (with_command script a.0.0 b.0.0 h.0) (codes "command" ∷ words) = record {
       shape = refl;
-      accepted = command_accepted script a.0.0 b.0 h.0 ok p (home_there script.homes a.0.0 h.0 (declared_is (home_of script.homes a.0.0) h.0 h.1)) (ltb-true _ _ r.0) (o.1, leb-true _ _ n.0) o.2;
-      text = command_body script a.0.0 b.0 h.0 p k ∙ ap (λ (x : Words). body script ++ x ∷ []) (sym line);
+      accepted = command_accepted script a.0.0 b.0.0 h.0 ok p (home_there script.homes a.0.0 h.0 (declared_is (home_of script.homes a.0.0) h.0 h.1)) (ltb-true _ _ r.0) (o.0.1, omega (arith, o.1, few)) o.0.2;
+      text = command_body script a.0.0 b.0.0 h.0 p k ∙ ap (λ (x : Words). body script ++ x ∷ []) (sym line);
     } in
-    subst (λ (x : Script). Grows script x (codes "command" ∷ words) × (x.plan ≡ []) × (x.picks ≡ [])) (ok_is ScriptCause (with_command script a.0.0 b.0 h.0) after r.1) (grown, p, k)
+    subst (λ (x : Script). Grows script x (codes "command" ∷ words) × (x.plan ≡ []) × (x.picks ≡ [])) (ok_is ScriptCause (with_command script a.0.0 b.0.0 h.0) after r.1) (grown, p, k)

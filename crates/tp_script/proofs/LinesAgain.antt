@@ -17,7 +17,7 @@ use Rattle.tp_base.specs.declared.names.Site.{Site}
 use Rattle.tp_base.proofs.Ends.{slice_get_left, slice_get_push}
 use Rattle.tp_ops.specs.declared.command.Command.{Command}
 use Rattle.tp_script.specs.Accepted.{AreNumbered, HasNoDoubles, IsActorOf, IsCommandOf, IsCount, IsHome, IsPlanLineOf, commands_by, is_double}
-use Rattle.tp_script.specs.Grammar.{command_line, crash_line, declared, drop_line, has_double, home_of, is_shape, next_command, next_number, ops_at, pick_line, recover_line, repeat_all, repeat_line, repeat_one, room, session_line, shape_line, with_plan}
+use Rattle.tp_script.specs.Grammar.{command_line, crash_line, declared, drop_line, has_double, home_of, is_shape, next_command, next_number, ops_and_count, pick_line, recover_line, repeat_all, repeat_line, repeat_one, room, session_line, shape_line, with_plan}
 use Rattle.tp_script.specs.Kinds.{AllSaid, IsSaid, Kind, Said, actor_word, count, id_word, is_from, kinds, most, row, site_word, take_word, times}
 use Rattle.tp_script.specs.Meaning.{begun, in_group, into_plan, line_of}
 use Rattle.tp_script.specs.Print.{command_words, ops_words, pick_words, plan_words, session_words, shape_words}
@@ -29,7 +29,7 @@ use Rattle.tp_script.specs.declared.script.PlanLine.TheVariants.{Crash, Recover,
 use Rattle.tp_script.specs.declared.script.Script.{Script}
 use Rattle.tp_script.proofs.Grown.{Words, is_by, two_counts, with_home}
 use Rattle.tp_script.proofs.Kinded.{IsKind, bytes_same, laws, range_in}
-use Rattle.tp_script.proofs.OpsWritten.{ops_again, ops_long}
+use Rattle.tp_script.proofs.OpsWritten.{counted_again}
 use Rattle.tp_script.proofs.PlanGrown.{IsBase, actor_in, crash_fit, crash_kinds, drop_fit, drop_kinds, or_both, recover_fit, recover_kinds, repeat_fit, repeat_kinds, three_counts, with_line, with_pick}
 use Rattle.tp_text.specs.Rows.{words_of_row}
 use Rattle.tp_text.specs.Steps.{◌>>=◌, need}
@@ -131,7 +131,7 @@ unfolding command_line
 command_written script c is sessions next few =
     let s : ℕ = c.id.session.0 in
     let session : take_word count (decimal s ∷ ops_words c.ops) ≡ Ok (s, ops_words c.ops) = word_again kinds IsKind IsSaid laws count (omega arith) s (ops_words c.ops) (omega arith, omega (arith, is.1.1, sessions)) in
-    let ops : ops_at (length (ops_words c.ops)) (ops_words c.ops) ≡ Ok c.ops = ops_again (length (ops_words c.ops)) c.ops (ops_long c.ops) is.0.2.0 is.0.3 in
+    let ops : ops_and_count (ops_words c.ops) ≡ Ok (c.ops, length c.ops) = counted_again c.ops is.0.2.1 is.0.2.0 is.0.3 in
     let home : home_of script.homes s ≡ Some c.home = home_is script.homes s c.home is.1.0 is.2 in
     let made : next_command script.commands s c.home c.ops ≡ c = ap (λ (n : ℕ). let x : Command = record { id = record { session = record { 0 = s }; number = n }; home = c.home; ops = c.ops } in x) (sym next) in
     let done : Ok (record script { commands = script.commands ++ next_command script.commands s c.home c.ops ∷ [] }) ≡ answer (with_next script c) = ap (λ (x : Command). answer (with_next script x)) made in

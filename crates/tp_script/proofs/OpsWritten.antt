@@ -1,17 +1,17 @@
 -- A command's operations: what is read is written so, and what is written is read.
-use Rattle.std.proofs.Common.{◌≡◌, ℕ, zero, suc, ◌+◌, ◌<◌, ◌≤◌, inl, inr, Bool, true, false, cond, ltb, List, [], ◌∷◌, ◌++◌, length, Option, Some, None, Result, Ok, Err, refl, sym, ap, subst, ◌∙◌, arith, length-append, append_assoc}
+use Rattle.std.proofs.Common.{◌≡◌, ℕ, zero, suc, ◌+◌, ◌<◌, ◌≤◌, inl, inr, Bool, true, false, cond, ltb, List, [], ◌∷◌, ◌++◌, length, take, Option, Some, None, Result, Ok, Err, refl, sym, ap, subst, ◌∙◌, arith, length-append, append_assoc}
 use Rattle.hex.specs.Hex.{encode_lower}
 use Rattle.std.specs.List.{list_all}
 use Rattle.std.specs.Option.{option_map}
 use Rattle.std.specs.Prelude.{codes, nat_lt}
 use Rattle.std.specs.Str.{bytes_eq}
 use Rattle.std.proofs.lemmas.Bool.{and_parts, ltb-true}
-use Rattle.std.proofs.lemmas.List.{append-nil}
+use Rattle.std.proofs.lemmas.List.{append-nil, take_all}
 use Rattle.tp_base.specs.Lists.{Each}
 use Rattle.tp_ops.specs.Limits.{IsKey, IsOp, IsValue}
 use Rattle.tp_ops.specs.declared.operation.Op.{Op}
 use Rattle.tp_ops.specs.declared.operation.Op.TheVariants.{Get, Put, Del, Cas}
-use Rattle.tp_script.specs.Grammar.{after_op, cas_at, del_at, get_at, op_and_after, op_at, ops_at, put_at, with_others}
+use Rattle.tp_script.specs.Grammar.{after_op, cas_at, del_at, get_at, op_and_after, op_at, ops_and_count, ops_at, put_at, with_others}
 use Rattle.tp_script.specs.Kinds.{IsSaid, key, kinds, take_word, value, value_word}
 use Rattle.tp_script.specs.Print.{more_words, op_words, ops_words}
 use Rattle.tp_script.specs.declared.fault.ScriptCause.{ScriptCause}
@@ -144,6 +144,19 @@ ops_take (suc n) words ops e =
     let t = both_take words a.0 a.1 in
     others_take n words a.0.0 a.0.1 ops t.0 t.1 (ops_take n) a.2
 
+whole : (ops : List Op) → length ops ≤ 16 → take 16 ops ≡ ops
+whole ops few = take_all 16 ops few
+
+-- where no more than sixteen were counted, they were all kept
+pub counted_take : (words : Words) (x : List Op × ℕ) → ops_and_count words ≡ Ok x → x.1 ≤ 16 → AreRead words x.0 × (length x.0 ≡ x.1)
+unfolding ops_and_count
+counted_take words x e few =
+    let a = bind_ok (ops_at (length words) words) (λ ops. Ok (take 16 ops, length ops)) x e in
+    let made : (take 16 a.0, length a.0) ≡ x = ok_is ScriptCause (take 16 a.0, length a.0) x a.2 in
+    let number : length a.0 ≡ x.1 = ap (λ (y : List Op × ℕ). y.1) made in
+    let list : a.0 ≡ x.0 = sym (whole a.0 (omega (arith, number, few))) ∙ ap (λ (y : List Op × ℕ). y.0) made in
+    (subst (AreRead words) list (ops_take (length words) words a.0 a.1), ap (λ (ops : List Op). length ops) (sym list) ∙ number)
+
 -- ---- writing
 
 key_again : (k : List ℕ) (words : Words) → IsKey k → take_word key (encode_lower k ∷ words) ≡ Ok (k, words)
@@ -214,3 +227,7 @@ more_plain (op ∷ ops) fit = (plain_by (codes ";") refl, plain_lines (op_words 
 pub ops_plain : (ops : List Op) → Each IsOp ops → Each IsPlain (ops_words ops)
 ops_plain [] fit = tt
 ops_plain (op ∷ ops) fit = plain_lines (op_words op) (more_words ops) (op_plain op fit.0) (more_plain ops fit.1)
+
+pub counted_again : (ops : List Op) → length ops ≤ 16 → 1 ≤ length ops → Each IsOp ops → ops_and_count (ops_words ops) ≡ Ok (ops, length ops)
+unfolding ops_and_count
+counted_again ops few some fit = rw (ops_again (length (ops_words ops)) ops (ops_long ops) some fit, whole ops few) refl

@@ -1,6 +1,6 @@
 -- The lines of a script behind the first: what the words behind a line's first word say, or the first fault.
 use Rattle.std.specs.List.{list_any}
-use Rattle.std.specs.Prelude.{ℕ, zero, suc, ◌+◌, ◌-◌, ◌/◌, ◌==◌, ◌&&◌, nat_le, nat_lt, not, Bool, true, if◌then◌else◌, List, [], ◌∷◌, ◌++◌, codes, length, Option, Some, None, Result, Ok, Err, slice_get}
+use Rattle.std.specs.Prelude.{ℕ, zero, suc, ◌+◌, ◌-◌, ◌/◌, ◌==◌, ◌&&◌, nat_le, nat_lt, not, Bool, true, if◌then◌else◌, List, [], ◌∷◌, ◌++◌, codes, length, Option, Some, None, Result, Ok, Err, slice_get, take}
 use Rattle.std.specs.Option.{option_map}
 use Rattle.std.specs.Str.{bytes_eq}
 use Rattle.tp_base.specs.declared.names.Rank.{Rank}
@@ -96,6 +96,12 @@ ops_at (suc n) words = do
   first ← op_and_after words
   with_others first.0 (option_map (λ ws. ops_at n ws) first.1)
 
+-- the first sixteen of them, and how many there are
+unfoldable pub ops_and_count : List (List ℕ) → Result (List Op × ℕ) ScriptCause
+ops_and_count words = do
+  ops ← ops_at (length words) words
+  Ok (take 16 ops, length ops)
+
 -- ---- `command`: its session, operations
 
 -- the home of a session, where it is declared
@@ -121,11 +127,11 @@ next_command commands s home ops = record {
 unfoldable pub command_line : Script → List (List ℕ) → Result Script ScriptCause
 command_line script words = do
   session ← take_word count words
-  ops ← ops_at (length session.1) session.1
+  ops ← ops_and_count session.1
   home ← declared (home_of script.homes session.0)
-  need (nat_le (length ops) 16) (Limit (length ops) 16)
+  need (nat_le ops.1 16) (Limit ops.1 16)
   room (length script.commands) 1000
-  Ok (record script { commands = script.commands ++ next_command script.commands session.0 home ops ∷ [] })
+  Ok (record script { commands = script.commands ++ next_command script.commands session.0 home ops.0 ∷ [] })
 
 -- ---- plan lines
 

@@ -48,13 +48,13 @@ pub(crate) fn read_command(
     ensures homes { script.new.homes ≡ script.old.homes }
 {
     let session = take_number(words, 0, MOST)?;
-    let ops = read_ops(alloc, words)?;
+    let (ops, count) = read_ops(alloc, words)?;
     let Some(home) = home(script.homes.as_slice(), session) else {
         return Err(Refusal::Cause(ScriptCause::Session));
     };
-    if ops.len() > 16 {
+    if count > 16 {
         return Err(Refusal::Cause(ScriptCause::Limit {
-            count: ops.len() as u64,
+            count: count as u64,
             limit: 16,
         }));
     }

@@ -1,11 +1,11 @@
-ghost use Rattle.std.specs.Prelude.{◌≡◌, ◌≤◌, ◌<◌, Some, None, if◌then◌else◌, length, OnOk};
-ghost use Rattle.tp_script.specs.Grammar.{after_op, cas_at, del_at, get_at, op_and_after, op_at, ops_at, put_at};
+ghost use Rattle.std.specs.Prelude.{◌≡◌, ◌≤◌, ◌<◌, ◌++◌, ◌∷◌, [], take, Some, None, if◌then◌else◌, length, OnOk};
+ghost use Rattle.tp_script.specs.Grammar.{after_op, cas_at, del_at, get_at, op_and_after, op_at, ops_and_count, put_at};
 ghost use Rattle.tp_script.specs.Reading.{Gives};
 
 use crate::fault::{Refusal, ScriptCause};
 use crate::words::{take_key, take_value};
 use std::alloc::Global;
-use tp_base::Sequence;
+use tp_base::{NoMemory, Sequence};
 use tp_ops::{Op, Ops};
 use tp_text::Words;
 
@@ -99,16 +99,32 @@ fn read_op_and_after(alloc: Global, words: &mut Words) -> Result<(Op, bool), Ref
     Ok((op, more))
 }
 
-/// Operations, up to the end of the line.
-pub(crate) fn read_ops(alloc: Global, words: &mut Words) -> Result<Ops, Refusal>
-    ensures { Gives (λ ops. ops) result (ops_at (length words.old) words.old) }
+// Keeps an operation, where fewer than sixteen are kept.
+fn keep(ops: &mut Ops, op: Op) -> Result<(), NoMemory>
+    requires { length ops.old ≤ 16 }
+    ensures kept { OnOk result (ops.new ≡ take 16 (ops.old ++ op ∷ [])) }
+    ensures few { OnOk result (length ops.new ≤ 16) }
 {
+    if ops.len() < 16 {
+        ops.add(op)?;
+    }
+    Ok(())
+}
+
+/// Operations up to the end of the line: the first sixteen, and how many there are.
+pub(crate) fn read_ops(alloc: Global, words: &mut Words) -> Result<(Ops, usize), Refusal>
+    ensures { Gives (λ ops. ops) result (ops_and_count words.old) }
+{
+    // No more operations are read than there are words, so the count fits.
+    let _most = words.most();
     let mut ops = Sequence::new(alloc);
+    let mut count = 0usize;
     let mut more = true;
     while more {
         let (op, another) = read_op_and_after(alloc, words)?;
-        ops.add(op)?;
+        keep(&mut ops, op)?;
+        count += 1;
         more = another;
     }
-    Ok(ops)
+    Ok((ops, count))
 }

@@ -1,5 +1,5 @@
 -- Lines of words are cut into those words again, and what was cut is what stood there.
-use Rattle.std.proofs.Common.{◌≡◌, ◌==◌, ℕ, ◌<◌, false, eq-eqb, List, [], ◌∷◌, ◌++◌, length, map, refl, sym, ap, ◌∙◌, arith, append_assoc}
+use Rattle.std.proofs.Common.{◌≡◌, ◌==◌, ℕ, suc, ◌+◌, ◌-◌, ◌<◌, ◌≤◌, Bool, true, false, eq-eqb, List, [], ◌∷◌, ◌++◌, length, map, refl, sym, ap, ◌∙◌, arith, append_assoc}
 use Rattle.std.specs.List.{flat_map, join_with_byte, onto_first}
 use Rattle.std.proofs.lemmas.Bool.{ne_eqb}
 use Rattle.std.proofs.lemmas.List.Concat.{flat_map-cons}
@@ -62,6 +62,17 @@ join_more c x (y ∷ xs) some = refl
 
 pub some_piece : (mark : ℕ) (bytes : List ℕ) → 0 < length (pieces mark bytes)
 some_piece mark bytes = omega (arith, length-slice_split (λ b. b == mark) bytes)
+
+pub few_pieces : (mark : ℕ) (bytes : List ℕ) → length (pieces mark bytes) ≤ length bytes + 1
+few_pieces mark [] = omega arith
+few_pieces mark (b ∷ bytes) = go (b == mark) refl (few_pieces mark bytes)
+  where
+    onto : (ps : List (List ℕ)) → length (onto_first b ps) ≤ length ps + (1 - length ps)
+    onto [] = omega arith
+    onto (p ∷ ps) = omega arith
+    go : (same : Bool) → (b == mark) ≡ same → length (pieces mark bytes) ≤ length bytes + 1 → length (pieces mark (b ∷ bytes)) ≤ suc (length bytes) + 1
+    go true e few = rw (slice_split-cons_yes (λ x. x == mark) b bytes e) (omega (arith, few))
+    go false e few = rw (slice_split-cons_no (λ x. x == mark) b bytes e) (omega (arith, few, onto (pieces mark bytes), some_piece mark bytes))
 
 some_more : (xs ys : List (List ℕ)) → 0 < length ys → 0 < length (xs ++ ys)
 some_more [] ys some = some

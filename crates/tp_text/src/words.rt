@@ -1,4 +1,4 @@
-ghost use Rattle.std.specs.Prelude.{◌≡◌, ◌∷◌, [], MatchOption, IfNone};
+ghost use Rattle.std.specs.Prelude.{◌≡◌, ◌≤◌, ◌^◌, ◌∷◌, [], length, MatchOption, IfNone};
 ghost use Rattle.tp_text.specs.Lines.{IsFirst, words_of};
 
 use crate::cut::cut;
@@ -29,6 +29,15 @@ impl<'a> Words<'a> {
             rest: line,
             more: true,
         }
+    }
+
+    /// No fewer words than are left.
+    #[tactic(auto, using(crate::proofs::Joined::few_pieces))]
+    pub fn most(&self) -> usize
+        ensures bound { length self.now ≤ result }
+        ensures small { result ≤ 2 ^ 63 }
+    {
+        if self.more { self.rest.len() + 1 } else { 0 }
     }
 
     /// The next word, which stays the next.
