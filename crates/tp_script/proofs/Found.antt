@@ -1,18 +1,17 @@
 -- What was read as a script is its text: each line that was read is the next line of the text.
-use Rattle.std.proofs.Common.{◌≡◌, ◌==◌, ◌&&◌, ℕ, zero, suc, ◌+◌, ◌<◌, ◌≤◌, inl, inr, Bool, true, false, cond, eqb, leb, List, [], ◌∷◌, ◌++◌, length, map, Result, Ok, Err, refl, sym, ap, subst, ◌∙◌, arith, append_assoc}
+use Rattle.std.proofs.Common.{◌≡◌, ◌==◌, ℕ, ◌+◌, ◌≤◌, inl, inr, Bool, true, false, cond, leb, List, [], ◌∷◌, ◌++◌, map, Result, Ok, Err, refl, sym, ap, subst, ◌∙◌, arith, append_assoc}
 use Rattle.std.specs.List.{join_with_byte}
 use Rattle.std.specs.Fmt.{decimal}
 use Rattle.std.specs.Prelude.{codes}
 use Rattle.std.specs.Str.{bytes_eq}
 use Rattle.std.proofs.lemmas.Bool.{and_parts, eqb-true, leb-true}
 use Rattle.std.proofs.lemmas.Fmt.{decimal_digit}
-use Rattle.std.proofs.lemmas.List.{append-nil, map-append}
-use Rattle.tp_base.specs.Lists.{Each}
+use Rattle.std.proofs.lemmas.List.{append-nil}
 use Rattle.tp_script.specs.Accepted.{IsAccepted}
 use Rattle.tp_script.specs.Grammar.{command_line, crash_line, drop_line, pick_line, recover_line, repeat_line, session_line, shape_line, with_plan}
 use Rattle.tp_script.specs.Kinds.{most, no_word}
-use Rattle.tp_script.specs.Meaning.{at_line, begun, ended_line, fault_at, header_at, header_line, in_group, into_group, into_plan, line_of, lines_from, one_line, script_at, shape_at, shape_begun, shaped, stands, version}
-use Rattle.tp_script.specs.Print.{body, end_words, header_words, script_lines, shape_words, text_of}
+use Rattle.tp_script.specs.Meaning.{at_line, begun, ended_line, header_at, header_line, in_group, into_group, into_plan, line_of, lines_from, one_line, script_at, shape_at, shape_begun, shaped, stands, version}
+use Rattle.tp_script.specs.Print.{body, end_words, header_words, script_lines, shape_words}
 use Rattle.tp_script.specs.declared.draft.Draft.{Draft}
 use Rattle.tp_script.specs.declared.fault.ScriptCause.{ScriptCause}
 use Rattle.tp_script.specs.declared.fault.ScriptCause.TheVariants.{Header, Missing, Newer, Word}
@@ -21,7 +20,7 @@ use Rattle.tp_script.specs.declared.script.PlanLine.{PlanLine}
 use Rattle.tp_script.specs.declared.script.Script.{Script}
 use Rattle.tp_script.proofs.Grown.{Grows, Words, command_grows, row_is, session_grows}
 use Rattle.tp_script.proofs.Kinded.{same_bytes}
-use Rattle.tp_script.proofs.LinesRead.{step, unread}
+use Rattle.tp_script.proofs.LinesRead.{unread}
 use Rattle.tp_script.proofs.PlanGrown.{Says, crash_says, drop_says, line_grows, pick_grows, recover_says, repeat_says, shape_says}
 use Rattle.tp_text.specs.Lines.{words_of}
 use Rattle.tp_text.specs.Numbers.{number_of}

@@ -1,41 +1,34 @@
 -- What a line that was read adds: the script so far stays accepted, and its text grows by the line.
-use Rattle.std.proofs.Common.{◌≡◌, ◌==◌, ◌&&◌, ◌||◌, ℕ, zero, suc, ◌+◌, ◌-◌, ◌^◌, ◌<◌, ◌≤◌, inl, inr, Bool, true, false, not, cond, eqb, leb, ltb, List, [], ◌∷◌, ◌++◌, length, map, Option, Some, None, Result, Ok, Err, refl, sym, ap, subst, ◌∙◌, arith, length-append, append_assoc}
-use Rattle.std.specs.List.{filter, list_any, slice_get}
+use Rattle.std.proofs.Common.{◌≡◌, ◌==◌, ◌&&◌, ℕ, zero, suc, ◌+◌, ◌-◌, ◌<◌, ◌≤◌, Bool, true, false, cond, leb, ltb, List, [], ◌∷◌, ◌++◌, length, map, Option, Some, None, Result, Ok, refl, sym, ap, subst, ◌∙◌, arith, length-append, append_assoc}
+use Rattle.std.specs.List.{filter, slice_get}
 use Rattle.std.specs.Prelude.{codes}
-use Rattle.std.specs.Str.{bytes_eq}
 use Rattle.std.specs.Fmt.{decimal}
 use Rattle.std.proofs.lemmas.Bool.{and_parts, eqb-true, leb-true, ltb-true}
-use Rattle.std.proofs.lemmas.List.{append-nil, map_push, map-append}
+use Rattle.std.proofs.lemmas.List.{append-nil, map_push}
 use Rattle.std.proofs.lemmas.List.Elements.{filter-append}
-use Rattle.std.proofs.lemmas.List.Folds.{list_any-append}
 use Rattle.std.proofs.lemmas.Option.{slice_get_within}
-use Rattle.tp_base.specs.Limits.{IsFrom, IsId}
+use Rattle.tp_base.specs.Limits.{IsFrom}
 use Rattle.tp_base.specs.Lists.{Each}
-use Rattle.tp_base.specs.declared.names.ActorName.{ActorName}
-use Rattle.tp_base.specs.declared.names.ActorName.TheVariants.{Process, Executor, Session as SessionOf}
 use Rattle.tp_base.specs.declared.names.Rank.{Rank}
-use Rattle.tp_base.proofs.Each.{each_in, each_push, each_weaker}
+use Rattle.tp_base.proofs.Each.{each_in, each_push}
 use Rattle.tp_base.proofs.Members.{in_get}
-use Rattle.tp_ops.specs.Limits.{IsCommand, IsOp}
+use Rattle.tp_ops.specs.Limits.{IsOp}
 use Rattle.tp_ops.specs.declared.command.Command.{Command}
 use Rattle.tp_ops.specs.declared.operation.Op.{Op}
-use Rattle.tp_script.specs.Accepted.{AreNumbered, HasNoDoubles, IsAccepted, IsActorOf, IsCommandOf, IsCount, IsHome, IsPlanLineOf, IsSiteOf, commands_by, is_double}
-use Rattle.tp_script.specs.Grammar.{command_line, crash_line, declared, drop_line, has_double, home_of, is_shape, next_command, next_number, ops_and_count, pick_line, recover_line, repeat_all, repeat_line, repeat_one, room, session_line, shape_line, with_plan}
-use Rattle.tp_script.specs.Kinds.{IsActorIn, IsSaid, Kind, Said, AllSaid, actor, count, id, is_from, kinds, literal, most, ordinal, row, site, take_word, times}
-use Rattle.tp_script.specs.Print.{body, command_words, ops_words, pick_words, plan_words, session_lines, session_words, shape_words}
+use Rattle.tp_script.specs.Accepted.{AreNumbered, IsAccepted, IsCommandOf, IsHome, commands_by}
+use Rattle.tp_script.specs.Grammar.{command_line, declared, home_of, next_command, next_number, ops_and_count, room, session_line}
+use Rattle.tp_script.specs.Kinds.{IsSaid, Kind, Said, AllSaid, count, is_from, kinds, row, take_word}
+use Rattle.tp_script.specs.Print.{body, command_words, ops_words, session_lines, session_words}
 use Rattle.tp_script.specs.declared.fault.ScriptCause.{ScriptCause}
-use Rattle.tp_script.specs.declared.fault.ScriptCause.TheVariants.{Duplicate, Limit, Session, Shape}
-use Rattle.tp_script.specs.declared.script.PlanLine.{PlanLine}
-use Rattle.tp_script.specs.declared.script.PlanLine.TheVariants.{Crash, Recover, Lose, Repeat, RepeatAll}
+use Rattle.tp_script.specs.declared.fault.ScriptCause.TheVariants.{Limit, Session}
 use Rattle.tp_script.specs.declared.script.Script.{Script}
-use Rattle.tp_script.proofs.Kinded.{IsKind, in_range, laws, same_bytes}
+use Rattle.tp_script.proofs.Kinded.{IsKind, in_range, laws}
 use Rattle.tp_script.proofs.OpsWritten.{counted_take}
 use Rattle.tp_text.specs.Rows.{words_of_row}
 use Rattle.tp_text.specs.Steps.{◌>>=◌, need}
 use Rattle.tp_text.proofs.Rowed.{AreSaid, row_takes, taken}
-use Rattle.tp_text.proofs.Stepped.{bind_ok, chosen, need_ok, ok_is}
+use Rattle.tp_text.proofs.Stepped.{bind_ok, need_ok, ok_is}
 use Rattle.tp_topology.specs.Counting.{up_to}
-use Rattle.tp_topology.specs.Shape.{IsShape, Shape as StoreShape}
 
 abbrev pub Words : Type 0
 Words = List (List ℕ)

@@ -1,9 +1,8 @@
 -- The laws of each kind of word: what is read is written so, what is written is read, and no space stands in it.
-use Rattle.std.proofs.Common.{◌≡◌, ◌==◌, ◌&&◌, ℕ, ◌+◌, ◌^◌, ◌<◌, ◌≤◌, ◌⊎◌, inl, inr, Bool, true, false, cond, eqb, leb, List, [], ◌∷◌, ◌++◌, length, Option, Some, None, Result, Ok, Err, refl, sym, ap, subst, ◌∙◌, arith}
+use Rattle.std.proofs.Common.{◌≡◌, ◌==◌, ℕ, ◌^◌, ◌<◌, ◌≤◌, ◌⊎◌, inl, inr, Bool, true, false, cond, leb, List, [], ◌∷◌, ◌++◌, length, Option, Some, None, Ok, Err, refl, sym, ap, subst, ◌∙◌, arith}
 use Rattle.hex.specs.Hex.{encode_lower, lower_digits}
 use Rattle.hex.proofs.HexLemmas.{length-encode_with}
 use Rattle.std.specs.Fmt.{decimal}
-use Rattle.std.specs.List.{list_any}
 use Rattle.std.specs.Prelude.{codes}
 use Rattle.std.specs.Str.{bytes_eq}
 use Rattle.std.proofs.lemmas.Bool.{and_parts, eqb-true, leb-true, le-leb, or_cases}
@@ -15,7 +14,7 @@ use Rattle.tp_base.specs.declared.names.ActorName.{ActorName}
 use Rattle.tp_base.specs.declared.names.ActorName.TheVariants.{Process, Executor, Session as SessionOf}
 use Rattle.tp_base.specs.declared.names.CommandId.{CommandId}
 use Rattle.tp_base.specs.declared.names.Site.{Site}
-use Rattle.tp_ops.specs.Limits.{IsKey, IsText, IsValue}
+use Rattle.tp_ops.specs.Limits.{IsText, IsValue}
 use Rattle.tp_ops.specs.declared.command.Command.{Command}
 use Rattle.tp_script.specs.Accepted.{IsSiteOf}
 use Rattle.tp_script.specs.Kinds.{IsActorIn, IsSaid, Kind, Said, actor, actor_word, bytes_at, dotted, dotted_at, id, id_at, id_word, is_from, is_site, is_there, key, kinds, literal, most, number, number_at, numbers_at, read_actor, read_id, read_session, read_site, read_word, site, site_at, site_word, value, value_at, value_word, word_of}
@@ -214,17 +213,17 @@ actor_read shape sessions (letter ∷ word) a e = elim (chosen (letter == 112) (
       let w = site_read shape word x.0 x.1 in
       subst (λ (y : ActorName). (letter ∷ word ≡ actor_word y) × IsActorIn shape sessions y) (ok_is ScriptCause (Process x.0) a x.2) (ap (λ (c : ℕ). c ∷ word) (eqb-true _ _ p.0) ∙ ap (λ (v : List ℕ). 112 ∷ v) w.0, w.1)
   | inr q ↦ elim (chosen (letter == 101) (read_site shape word >>= λ s. Ok (Executor s)) (cond (letter == 115) (read_session sessions word) (Err Word)) (Ok a) q.1) [
+    | inl p ↦
+        let x = bind_ok (read_site shape word) (λ s. Ok (Executor s)) a p.1 in
+        let w = site_read shape word x.0 x.1 in
+        subst (λ (y : ActorName). (letter ∷ word ≡ actor_word y) × IsActorIn shape sessions y) (ok_is ScriptCause (Executor x.0) a x.2) (ap (λ (c : ℕ). c ∷ word) (eqb-true _ _ p.0) ∙ ap (λ (v : List ℕ). 101 ∷ v) w.0, w.1)
+    | inr r ↦ elim (chosen (letter == 115) (read_session sessions word) (Err Word) (Ok a) r.1) [
       | inl p ↦
-          let x = bind_ok (read_site shape word) (λ s. Ok (Executor s)) a p.1 in
-          let w = site_read shape word x.0 x.1 in
-          subst (λ (y : ActorName). (letter ∷ word ≡ actor_word y) × IsActorIn shape sessions y) (ok_is ScriptCause (Executor x.0) a x.2) (ap (λ (c : ℕ). c ∷ word) (eqb-true _ _ p.0) ∙ ap (λ (v : List ℕ). 101 ∷ v) w.0, w.1)
-      | inr r ↦ elim (chosen (letter == 115) (read_session sessions word) (Err Word) (Ok a) r.1) [
-          | inl p ↦
-              let w = session_read sessions word a p.1 in
-              (ap (λ (c : ℕ). c ∷ word) (eqb-true _ _ p.0) ∙ w.0, w.1 shape)
-          | inr z ↦ absurd (let wrong : ⊥ = cc in wrong)
-        ]
+          let w = session_read sessions word a p.1 in
+          (ap (λ (c : ℕ). c ∷ word) (eqb-true _ _ p.0) ∙ w.0, w.1 shape)
+      | inr z ↦ absurd (let wrong : ⊥ = cc in wrong)
     ]
+  ]
 ]
 
 actor_written : (shape : StoreShape) (sessions : ℕ) (a : ActorName) → IsShape shape → sessions ≤ 16 → IsActorIn shape sessions a → read_actor shape sessions (actor_word a) ≡ Ok a

@@ -1,5 +1,5 @@
 -- A line of an accepted script's text is read as what it says, behind the lines before it.
-use Rattle.std.proofs.Common.{◌≡◌, ◌==◌, ◌&&◌, ◌||◌, ℕ, zero, suc, ◌+◌, ◌-◌, ◌/◌, ◌^◌, ◌<◌, ◌≤◌, inl, inr, Bool, true, false, not, cond, eqb, leb, ltb, eq-eqb, List, [], ◌∷◌, ◌++◌, length, map, Option, Some, None, Result, Ok, Err, refl, sym, ap, subst, ◌∙◌, arith, length-append}
+use Rattle.std.proofs.Common.{◌≡◌, ◌==◌, ◌&&◌, ℕ, zero, suc, ◌-◌, ◌/◌, ◌<◌, ◌≤◌, inl, inr, true, false, eq-eqb, List, [], ◌∷◌, ◌++◌, length, map, Option, Some, None, Result, Ok, refl, sym, ap, subst, ◌∙◌, arith, length-append}
 use Rattle.std.specs.Fmt.{decimal}
 use Rattle.std.specs.List.{filter, list_any, slice_get}
 use Rattle.std.specs.Prelude.{codes}
@@ -16,19 +16,19 @@ use Rattle.tp_base.specs.declared.names.Rank.{Rank}
 use Rattle.tp_base.specs.declared.names.Site.{Site}
 use Rattle.tp_base.proofs.Ends.{slice_get_left, slice_get_push}
 use Rattle.tp_ops.specs.declared.command.Command.{Command}
-use Rattle.tp_script.specs.Accepted.{AreNumbered, HasNoDoubles, IsActorOf, IsCommandOf, IsCount, IsHome, IsPlanLineOf, commands_by, is_double}
-use Rattle.tp_script.specs.Grammar.{command_line, crash_line, declared, drop_line, has_double, home_of, is_shape, next_command, next_number, ops_and_count, pick_line, recover_line, repeat_all, repeat_line, repeat_one, room, session_line, shape_line, with_plan}
-use Rattle.tp_script.specs.Kinds.{AllSaid, IsSaid, Kind, Said, actor_word, count, id_word, is_from, kinds, most, row, site_word, take_word, times}
+use Rattle.tp_script.specs.Accepted.{AreNumbered, HasNoDoubles, IsCommandOf, IsCount, IsHome, IsPlanLineOf, is_double}
+use Rattle.tp_script.specs.Grammar.{command_line, crash_line, drop_line, has_double, home_of, is_shape, next_command, next_number, ops_and_count, pick_line, recover_line, repeat_all, repeat_line, repeat_one, room, session_line, shape_line, with_plan}
+use Rattle.tp_script.specs.Kinds.{AllSaid, IsSaid, Kind, Said, actor_word, count, id_word, is_from, kinds, row, site_word, take_word, times}
 use Rattle.tp_script.specs.Meaning.{begun, in_group, into_plan, line_of}
-use Rattle.tp_script.specs.Print.{command_words, ops_words, pick_words, plan_words, session_words, shape_words}
+use Rattle.tp_script.specs.Print.{command_words, ops_words, pick_words, plan_words, session_words}
 use Rattle.tp_script.specs.declared.draft.Draft.{Draft}
 use Rattle.tp_script.specs.declared.fault.ScriptCause.{ScriptCause}
-use Rattle.tp_script.specs.declared.fault.ScriptCause.TheVariants.{Duplicate, Limit, Session, Shape}
+use Rattle.tp_script.specs.declared.fault.ScriptCause.TheVariants.{Session, Shape}
 use Rattle.tp_script.specs.declared.script.PlanLine.{PlanLine}
 use Rattle.tp_script.specs.declared.script.PlanLine.TheVariants.{Crash, Recover, Lose, Repeat, RepeatAll}
 use Rattle.tp_script.specs.declared.script.Script.{Script}
-use Rattle.tp_script.proofs.Grown.{Words, is_by, two_counts, with_home}
-use Rattle.tp_script.proofs.Kinded.{IsKind, bytes_same, laws, range_in}
+use Rattle.tp_script.proofs.Grown.{is_by, two_counts, with_home}
+use Rattle.tp_script.proofs.Kinded.{IsKind, laws, range_in}
 use Rattle.tp_script.proofs.OpsWritten.{counted_again}
 use Rattle.tp_script.proofs.PlanGrown.{IsBase, actor_in, crash_fit, crash_kinds, drop_fit, drop_kinds, or_both, recover_fit, recover_kinds, repeat_fit, repeat_kinds, three_counts, with_line, with_pick}
 use Rattle.tp_text.specs.Rows.{words_of_row}

@@ -1,5 +1,5 @@
 -- The loop over a script's lines gives what the definition gives.
-use Rattle.std.proofs.Common.{◌≡◌, ℕ, ◌+◌, ◌<◌, ◌≤◌, Bool, true, false, if◌then◌else◌, List, [], ◌∷◌, length, Result, Ok, Err, refl, sym, ap, ◌∙◌, arith}
+use Rattle.std.proofs.Common.{◌≡◌, ℕ, ◌+◌, ◌<◌, Bool, if◌then◌else◌, List, [], ◌∷◌, length, Result, Ok, Err, refl, sym, ap, ◌∙◌, arith}
 use Rattle.tp_script.specs.Meaning.{ended_line, lines_from, one_line}
 use Rattle.tp_script.specs.Reading.{FailsAt, IsTail}
 use Rattle.tp_script.specs.declared.draft.Draft.{Draft}

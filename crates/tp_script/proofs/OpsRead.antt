@@ -1,9 +1,9 @@
 -- The loop over a command's operations gives what the definition gives.
-use Rattle.std.proofs.Common.{◌≡◌, ℕ, zero, suc, ◌+◌, ◌-◌, ◌<◌, ◌≤◌, Bool, true, false, if◌then◌else◌, List, [], ◌∷◌, ◌++◌, length, take, Option, Some, None, Result, Ok, Err, refl, sym, ap, ◌∙◌, append_assoc, arith, length-append}
+use Rattle.std.proofs.Common.{◌≡◌, ℕ, zero, suc, ◌+◌, ◌-◌, ◌≤◌, Bool, true, false, if◌then◌else◌, List, [], ◌∷◌, ◌++◌, length, take, Some, None, Result, Ok, Err, refl, sym, ap, ◌∙◌, append_assoc, arith}
 use Rattle.std.specs.Option.{option_map}
 use Rattle.std.proofs.lemmas.List.{append-nil, take_all}
 use Rattle.tp_ops.specs.declared.operation.Op.{Op}
-use Rattle.tp_script.specs.Grammar.{after_op, op_and_after, op_at, ops_and_count, ops_at, with_others}
+use Rattle.tp_script.specs.Grammar.{op_and_after, op_at, ops_and_count, ops_at, with_others}
 use Rattle.tp_script.specs.Reading.{Fails}
 use Rattle.tp_script.specs.declared.fault.Refusal.{Refusal}
 use Rattle.tp_script.specs.declared.fault.Refusal.TheVariants as refusals

@@ -1,12 +1,12 @@
 -- A command's operations: what is read is written so, and what is written is read.
-use Rattle.std.proofs.Common.{◌≡◌, ℕ, zero, suc, ◌+◌, ◌<◌, ◌≤◌, inl, inr, Bool, true, false, cond, ltb, List, [], ◌∷◌, ◌++◌, length, take, Option, Some, None, Result, Ok, Err, refl, sym, ap, subst, ◌∙◌, arith, length-append, append_assoc}
+use Rattle.std.proofs.Common.{◌≡◌, ℕ, zero, suc, ◌≤◌, inl, inr, true, cond, ltb, List, [], ◌∷◌, ◌++◌, length, take, Option, Some, None, Ok, Err, refl, sym, ap, subst, ◌∙◌, arith, length-append}
 use Rattle.hex.specs.Hex.{encode_lower}
 use Rattle.std.specs.List.{list_all}
 use Rattle.std.specs.Option.{option_map}
 use Rattle.std.specs.Prelude.{codes, nat_lt}
 use Rattle.std.specs.Str.{bytes_eq}
 use Rattle.std.proofs.lemmas.Bool.{and_parts, ltb-true}
-use Rattle.std.proofs.lemmas.List.{append-nil, take_all}
+use Rattle.std.proofs.lemmas.List.{take_all}
 use Rattle.tp_base.specs.Lists.{Each}
 use Rattle.tp_ops.specs.Limits.{IsKey, IsOp, IsValue}
 use Rattle.tp_ops.specs.declared.operation.Op.{Op}
@@ -84,15 +84,15 @@ op_takes (word ∷ words) x e =
     elim (chosen (bytes_eq word (codes "get")) (get_at words) (cond (bytes_eq word (codes "put")) (put_at words) (cond (bytes_eq word (codes "del")) (del_at words) (cond (bytes_eq word (codes "cas")) (cas_at words) (Err Word)))) (Ok x) e) [
       | inl p ↦ named word (codes "get") words x p.0 (get_takes words x p.1)
       | inr q ↦ elim (chosen (bytes_eq word (codes "put")) (put_at words) (cond (bytes_eq word (codes "del")) (del_at words) (cond (bytes_eq word (codes "cas")) (cas_at words) (Err Word))) (Ok x) q.1) [
-          | inl p ↦ named word (codes "put") words x p.0 (put_takes words x p.1)
-          | inr r ↦ elim (chosen (bytes_eq word (codes "del")) (del_at words) (cond (bytes_eq word (codes "cas")) (cas_at words) (Err Word)) (Ok x) r.1) [
-              | inl p ↦ named word (codes "del") words x p.0 (del_takes words x p.1)
-              | inr s ↦ elim (chosen (bytes_eq word (codes "cas")) (cas_at words) (Err Word) (Ok x) s.1) [
-                  | inl p ↦ named word (codes "cas") words x p.0 (cas_takes words x p.1)
-                  | inr z ↦ let wrong : ⊥ = cc in absurd wrong
-                ]
-            ]
+        | inl p ↦ named word (codes "put") words x p.0 (put_takes words x p.1)
+        | inr r ↦ elim (chosen (bytes_eq word (codes "del")) (del_at words) (cond (bytes_eq word (codes "cas")) (cas_at words) (Err Word)) (Ok x) r.1) [
+          | inl p ↦ named word (codes "del") words x p.0 (del_takes words x p.1)
+          | inr s ↦ elim (chosen (bytes_eq word (codes "cas")) (cas_at words) (Err Word) (Ok x) s.1) [
+            | inl p ↦ named word (codes "cas") words x p.0 (cas_takes words x p.1)
+            | inr z ↦ let wrong : ⊥ = cc in absurd wrong
+          ]
         ]
+      ]
     ]
 
 -- what stands behind an operation

@@ -1,10 +1,8 @@
 -- The laws of a script's text, for the clauses of the function that reads it and of the one that prints it.
-use Rattle.std.proofs.Common.{◌≡◌, ℕ, ◌+◌, false, List, [], ◌∷◌, ◌++◌, length, map, Result, Ok, Err, refl, sym, ap, ◌∙◌, arith, length-append, append_assoc}
+use Rattle.std.proofs.Common.{◌≡◌, ℕ, ◌+◌, false, List, [], ◌∷◌, ◌++◌, length, map, Result, Ok, Err, sym, ap, ◌∙◌, arith, length-append}
 use Rattle.std.specs.List.{join_with_byte}
 use Rattle.std.specs.Prelude.{IfOk, OnOk}
 use Rattle.std.proofs.lemmas.List.{length-map}
-use Rattle.tp_base.specs.declared.names.Rank.{Rank}
-use Rattle.tp_ops.specs.declared.command.Command.{Command}
 use Rattle.tp_script.specs.Accepted.{IsAccepted}
 use Rattle.tp_script.specs.Meaning.{script_at}
 use Rattle.tp_script.specs.Print.{body, command_words, end_words, header_words, pick_words, plan_words, script_lines, session_lines, shape_words, text_of}
@@ -12,7 +10,6 @@ use Rattle.tp_script.specs.Reading.{IsReadAs, Reads, all_lines}
 use Rattle.tp_script.specs.declared.fault.ScriptError.{ScriptError}
 use Rattle.tp_script.specs.declared.fault.ScriptError.TheVariants as errors
 use Rattle.tp_script.specs.declared.fault.ScriptFault.{ScriptFault}
-use Rattle.tp_script.specs.declared.script.PlanLine.{PlanLine}
 use Rattle.tp_script.specs.declared.script.Script.{Script}
 use Rattle.tp_script.proofs.Found.{joined, script_found}
 use Rattle.tp_script.proofs.Grown.{Words}
@@ -35,6 +32,7 @@ is_only n old new r read s rest ok e = go r read
   where
     made : script_at n (lines_of old) ≡ Ok (s, lines_of rest)
     made = ap (script_at n) (ap lines_of e ∙ text_again s rest ok) ∙ script_again n s (lines_of rest) ok (some_piece 10 rest)
+
     go : (r : Result Script ScriptError) → Reads (λ s. (s, lines_of new)) r (script_at n (lines_of old)) → IsReadAs s rest new r
     go (Ok v) read' =
         let same : (s, lines_of rest) ≡ (v, lines_of new) = ok_is ScriptFault (s, lines_of rest) (v, lines_of new) (sym made ∙ read') in

@@ -1,17 +1,17 @@
 -- The text of an accepted script is read as the script, whatever stands behind it.
-use Rattle.std.proofs.Common.{◌≡◌, ◌==◌, ◌&&◌, ℕ, zero, suc, ◌+◌, ◌^◌, ◌<◌, ◌≤◌, Bool, true, false, cond, List, [], ◌∷◌, ◌++◌, length, map, Result, Ok, Err, refl, sym, ap, subst, ◌∙◌, arith, append_assoc, length-append}
-use Rattle.std.specs.List.{join_with_byte, list_any}
+use Rattle.std.proofs.Common.{◌≡◌, ℕ, suc, ◌+◌, ◌<◌, ◌≤◌, Bool, false, List, [], ◌∷◌, ◌++◌, length, map, Result, Ok, refl, sym, ap, subst, ◌∙◌, arith, append_assoc}
+use Rattle.std.specs.List.{join_with_byte}
 use Rattle.std.specs.Prelude.{codes}
-use Rattle.std.proofs.lemmas.List.{append-nil, map-append}
+use Rattle.std.proofs.lemmas.List.{append-nil}
 use Rattle.tp_base.specs.Limits.{IsFrom}
 use Rattle.tp_base.specs.Lists.{Each}
 use Rattle.tp_base.specs.declared.names.Rank.{Rank}
 use Rattle.tp_base.proofs.Each.{each_append, each_weaker}
 use Rattle.tp_ops.specs.declared.command.Command.{Command}
 use Rattle.tp_script.specs.Accepted.{AreNumbered, HasNoDoubles, IsAccepted, IsCommandOf, IsCount, IsPlanLineOf}
-use Rattle.tp_script.specs.Kinds.{AllSaid, IsSaid, Kind, Said, kinds, most, times}
-use Rattle.tp_script.specs.Meaning.{at_line, begun, ended_line, header_at, header_line, in_group, line_of, lines_from, one_line, script_at, shape_at, shape_begun, shaped, version}
-use Rattle.tp_script.specs.Print.{body, command_words, end_words, header_words, pick_words, plan_words, script_lines, session_lines, session_words, shape_words, text_of}
+use Rattle.tp_script.specs.Kinds.{AllSaid, IsSaid, Kind, Said, kinds}
+use Rattle.tp_script.specs.Meaning.{at_line, begun, header_at, header_line, in_group, line_of, lines_from, one_line, script_at, shape_at, shape_begun, shaped}
+use Rattle.tp_script.specs.Print.{body, command_words, end_words, header_words, pick_words, plan_words, script_lines, session_lines, shape_words, text_of}
 use Rattle.tp_script.specs.declared.draft.Draft.{Draft}
 use Rattle.tp_script.specs.declared.fault.ScriptCause.{ScriptCause}
 use Rattle.tp_script.specs.declared.fault.ScriptCause.TheVariants.{Header, Missing}
@@ -19,7 +19,7 @@ use Rattle.tp_script.specs.declared.fault.ScriptFault.{ScriptFault}
 use Rattle.tp_script.specs.declared.script.PlanLine.{PlanLine}
 use Rattle.tp_script.specs.declared.script.PlanLine.TheVariants.{Crash, Recover, Lose, Repeat, RepeatAll}
 use Rattle.tp_script.specs.declared.script.Script.{Script}
-use Rattle.tp_script.proofs.Found.{joined, one_text}
+use Rattle.tp_script.proofs.Found.{joined}
 use Rattle.tp_script.proofs.Grown.{Words, one_longer, with_home}
 use Rattle.tp_script.proofs.Kinded.{IsKind, laws}
 use Rattle.tp_script.proofs.LinesAgain.{command_read, line_read, no_double, number_next, pick_read, session_read, shape_written, so_far, with_next}
@@ -30,8 +30,7 @@ use Rattle.tp_text.specs.Lines.{lines_of, words_of}
 use Rattle.tp_text.specs.Numbers.{number_of}
 use Rattle.tp_text.specs.Rows.{no_word, words_of_row}
 use Rattle.tp_text.specs.Steps.{◌>>=◌}
-use Rattle.tp_text.proofs.Joined.{IsPlain, lines_again, some_piece, words_again}
-use Rattle.tp_text.proofs.Numerals.{number_again}
+use Rattle.tp_text.proofs.Joined.{IsPlain, lines_again, words_again}
 use Rattle.tp_text.proofs.Plain.{decimal_plain}
 use Rattle.tp_text.proofs.Rowed.{AreSaid, row_plain}
 use Rattle.tp_topology.specs.Shape.{IsShape, Shape as StoreShape}

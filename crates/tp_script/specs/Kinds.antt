@@ -3,7 +3,7 @@
 use Rattle.hex.specs.Hex.{encode_lower}
 use Rattle.std.specs.Fmt.{decimal}
 use Rattle.std.specs.List.{list_any}
-use Rattle.std.specs.Prelude.{ℕ, ◌≡◌, ◌≤◌, ◌==◌, ◌&&◌, nat_le, Bool, true, if◌then◌else◌, List, [], ◌∷◌, ◌++◌, codes, length, Option, Some, None, Result, Ok, Err}
+use Rattle.std.specs.Prelude.{ℕ, ◌≡◌, ◌==◌, ◌&&◌, nat_le, Bool, true, if◌then◌else◌, List, [], ◌∷◌, ◌++◌, codes, length, Option, Some, None, Result, Ok, Err}
 use Rattle.std.specs.Str.{bytes_eq}
 use Rattle.tp_base.specs.Limits.{IsFrom}
 use Rattle.tp_base.specs.Names.{same_id}
@@ -24,13 +24,13 @@ use Rattle.tp_text.specs.Steps.{◌>>=◌, ◌>>◌, else_cause, need}
 use Rattle.tp_topology.specs.Shape.{Shape as StoreShape}
 
 pub data Kind : Type 0 where
-  number : ℕ → ℕ → Kind           -- a number from the first to the second
-  literal : List ℕ → Kind         -- this word alone
-  key : Kind                      -- hexadecimal of 1 to 32 bytes
-  value : Kind                    -- hexadecimal of 1 to 64 bytes, or `-` for the empty value
-  site : StoreShape → Kind        -- `<p>.<k>`, a site of the shape
-  id : List Command → Kind        -- `<s>.<n>`, one of the commands
-  actor : StoreShape → ℕ → Kind   -- `p<p>.<k>`, `e<p>.<k>` or `s<s>`, of the shape and so many sessions
+  number : ℕ → ℕ → Kind  -- a number from the first to the second
+  literal : List ℕ → Kind  -- this word alone
+  key : Kind  -- hexadecimal of 1 to 32 bytes
+  value : Kind  -- hexadecimal of 1 to 64 bytes, or `-` for the empty value
+  site : StoreShape → Kind  -- `<p>.<k>`, a site of the shape
+  id : List Command → Kind  -- `<s>.<n>`, one of the commands
+  actor : StoreShape → ℕ → Kind  -- `p<p>.<k>`, `e<p>.<k>` or `s<s>`, of the shape and so many sessions
 
 -- the greatest number of a script
 abbrev pub most : ℕ

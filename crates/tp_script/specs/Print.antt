@@ -1,7 +1,6 @@
 -- The one text of a script, by its lines and their words.
 use Rattle.hex.specs.Hex.{encode_lower}
 use Rattle.std.specs.Fmt.{decimal}
-use Rattle.std.specs.List.{flat_map}
 use Rattle.std.specs.Prelude.{ℕ, suc, List, [], ◌∷◌, ◌++◌, codes, map}
 use Rattle.tp_base.specs.declared.names.Rank.{Rank}
 use Rattle.tp_ops.specs.declared.command.Command.{Command}

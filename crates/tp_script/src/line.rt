@@ -95,12 +95,7 @@ fn stands(draft: &Draft, group: u8, name: &[u8], word: &[u8]) -> bool
 }
 
 #[tactic(auto, unfolding(crate::specs::Meaning::begun))]
-fn enter(
-    alloc: Global,
-    draft: &mut Draft,
-    word: &[u8],
-    words: &mut Words,
-) -> Result<bool, Refusal>
+fn enter(alloc: Global, draft: &mut Draft, word: &[u8], words: &mut Words) -> Result<bool, Refusal>
     requires { length draft.old.script.homes ≤ 16 }
     ensures read { Gives (λ more. (more, draft.new)) result (begun draft.old word.now words.old) }
     ensures few { OnOk result (length draft.new.script.homes ≤ 16) }

@@ -101,7 +101,10 @@ fn crashes(line: &PlanLine, site: Site) -> bool
     ensures { result ≡ is_double (PlanLine.Crash site 0) line.now }
 {
     match *line {
-        PlanLine::Crash { site: other, after: _ } => site == other,
+        PlanLine::Crash {
+            site: other,
+            after: _,
+        } => site == other,
         _ => false,
     }
 }

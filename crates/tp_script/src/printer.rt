@@ -128,11 +128,7 @@ fn put_commands(text: &mut Text, commands: &[Command]) -> Result<(), NoMemory>
 fn put_site(text: &mut Text, site: Site) -> Result<(), NoMemory>
     ensures { OnOk result (text.new ≡ with_word text.old (site_word site)) }
 {
-    text.dotted(
-        b"",
-        u64::from(site.partition.0),
-        u64::from(site.rank.0),
-    )
+    text.dotted(b"", u64::from(site.partition.0), u64::from(site.rank.0))
 }
 
 fn put_actor(text: &mut Text, actor: ActorName) -> Result<(), NoMemory>

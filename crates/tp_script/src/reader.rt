@@ -160,11 +160,7 @@ fn take_one(alloc: Global, lines: &mut Lines, draft: &mut Draft) -> Result<bool,
     }
 }
 
-fn take_lines(
-    alloc: Global,
-    lines: &mut Lines,
-    topology: Topology,
-) -> Result<Script, ScriptError>
+fn take_lines(alloc: Global, lines: &mut Lines, topology: Topology) -> Result<Script, ScriptError>
     ensures read { Reads (λ s. (s, lines_of lines.new.left)) result (lines_from (lines.old.count + 1) (shaped topology) (lines_of lines.old.left)) }
     ensures all { OnOk result (all_lines lines.new ≡ all_lines lines.old) }
 {

@@ -68,7 +68,12 @@ pub(crate) fn take_end(words: &mut Words) -> Result<(), Refusal>
 }
 
 #[tactic(auto, unfolding(crate::specs::Kinds::bytes_at))]
-fn read_bytes(alloc: Global, word: &[u8], longest: usize, cause: ScriptCause) -> Result<Bytes, Refusal>
+fn read_bytes(
+    alloc: Global,
+    word: &[u8],
+    longest: usize,
+    cause: ScriptCause,
+) -> Result<Bytes, Refusal>
     ensures { Gives (λ bytes. bytes) result (bytes_at cause longest word.now) }
 {
     match hex(alloc, word) {

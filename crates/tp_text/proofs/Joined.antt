@@ -70,6 +70,7 @@ few_pieces mark (b ∷ bytes) = go (b == mark) refl (few_pieces mark bytes)
     onto : (ps : List (List ℕ)) → length (onto_first b ps) ≤ length ps + (1 - length ps)
     onto [] = omega arith
     onto (p ∷ ps) = omega arith
+
     go : (same : Bool) → (b == mark) ≡ same → length (pieces mark bytes) ≤ length bytes + 1 → length (pieces mark (b ∷ bytes)) ≤ suc (length bytes) + 1
     go true e few = rw (slice_split-cons_yes (λ x. x == mark) b bytes e) (omega (arith, few))
     go false e few = rw (slice_split-cons_no (λ x. x == mark) b bytes e) (omega (arith, few, onto (pieces mark bytes), some_piece mark bytes))

@@ -1,6 +1,6 @@
-use Rattle.std.proofs.Common.{◌≡◌, ◌+◌, ◌-◌, ◌≤◌, ◌∙◌, [], ◌∷◌, ◌++◌, length, ap, arith, Ok}
+use Rattle.std.proofs.Common.{◌≡◌, ◌-◌, ◌∙◌, [], length, ap, arith}
 use Rattle.std.proofs.lemmas.Result.{err_from_is_err_and}
-use Rattle.tp_script.proofs.OpsRead.{counted, ends, goes_on, is_done, none_kept}
+use Rattle.tp_script.proofs.OpsRead.{counted, ends, goes_on, none_kept}
 use Rattle.tp_script.specs.Grammar.{ops_and_count, ops_at}
 use Rattle.tp_script.proofs.operations.read_ops.Goals as goal
 

@@ -1,4 +1,4 @@
-use Rattle.std.proofs.Common.{◌≡◌, drop, map}
+use Rattle.std.proofs.Common.{◌≡◌, drop}
 use Rattle.tp_script.specs.Print.{more_words}
 use Rattle.tp_script.proofs.printer.put_more.Given as goal
 use Rattle.tp_text.specs.Writing.{with_words}

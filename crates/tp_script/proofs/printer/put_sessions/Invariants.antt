@@ -1,4 +1,4 @@
-use Rattle.std.proofs.Common.{◌≡◌, drop, map, suc}
+use Rattle.std.proofs.Common.{◌≡◌, drop, suc}
 use Rattle.tp_script.specs.Print.{session_lines}
 use Rattle.tp_script.proofs.printer.put_sessions.Given as goal
 use Rattle.tp_text.specs.Writing.{with_lines}
