@@ -1,12 +1,11 @@
 -- Which scripts there are: those that some text says.
-use Rattle.std.specs.Prelude.{ℕ, ◌≡◌, ◌+◌, ◌-◌, ◌^◌, ◌==◌, ◌&&◌, ◌≤◌, ◌<◌, not, zero, suc, Bool, true, false, List, [], ◌∷◌, Option, Some, None, length, filter, map, slice_get}
+use Rattle.std.specs.Prelude.{ℕ, ◌≡◌, ◌-◌, ◌^◌, ◌==◌, ◌&&◌, ◌≤◌, ◌<◌, Bool, true, false, List, [], ◌∷◌, Option, Some, None, length, filter, map, slice_get}
 use Rattle.std.specs.List.{list_any}
 use Rattle.tp_base.specs.Limits.{IsFrom}
 use Rattle.tp_base.specs.Lists.{Each}
 use Rattle.tp_base.specs.Names.{same_id, same_site, same_name}
 use Rattle.tp_base.specs.declared.names.ActorName.{ActorName}
 use Rattle.tp_base.specs.declared.names.ActorName.TheVariants.{Process, Executor, Session}
-use Rattle.tp_base.specs.declared.names.CommandId.{CommandId}
 use Rattle.tp_base.specs.declared.names.Rank.{Rank}
 use Rattle.tp_base.specs.declared.names.Site.{Site}
 use Rattle.tp_ops.specs.Limits.{IsCommand}

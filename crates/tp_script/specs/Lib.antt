@@ -1,1 +1,6 @@
 pub mod Accepted
+pub mod Grammar
+pub mod Kinds
+pub mod Meaning
+pub mod Print
+pub mod Reading

@@ -1,0 +1,10 @@
+pub mod OpsRead
+pub mod LinesRead
+pub mod Kinded
+pub mod OpsWritten
+pub mod Grown
+pub mod PlanGrown
+pub mod Found
+pub mod LinesAgain
+pub mod TextAgain
+pub mod ScriptLaws
