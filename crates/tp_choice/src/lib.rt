@@ -1,6 +1,10 @@
-//! What a process answers to a recovery.
+//! What a process answers to a recovery, and the stamp that a recovery chooses from the answers.
 #![tactic(auto)]
 
 mod answer;
+mod recovery;
+#[cfg(test)]
+mod tests;
 
 pub use answer::RecoveryAnswer;
+pub use recovery::choose;

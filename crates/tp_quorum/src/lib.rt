@@ -1,6 +1,12 @@
-//! What a fast quorum's proposals decide.
+//! What a fast quorum's proposals decide, and the stamps of the partitions.
 #![tactic(auto)]
 
 mod choice;
+mod gather;
+mod known;
+#[cfg(test)]
+mod tests;
 
 pub use choice::FastChoice;
+pub use gather::Gather;
+pub use known::Known;

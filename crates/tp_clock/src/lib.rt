@@ -1,0 +1,8 @@
+//! The clock of a process: which stamps it proposes, and which of its promises it has told.
+#![tactic(auto)]
+
+mod clock;
+#[cfg(test)]
+mod tests;
+
+pub use clock::Clock;

@@ -1,0 +1,3 @@
+pub mod Passing
+pub mod Meetings
+pub mod Sizes
