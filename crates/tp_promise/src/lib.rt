@@ -1,0 +1,11 @@
+//! What an executor was told of the promises of its partition's processes, and how far they count.
+#![tactic(auto)]
+
+mod book;
+mod page;
+mod pairs;
+mod ranges;
+#[cfg(test)]
+mod tests;
+
+pub use book::Book;
