@@ -160,19 +160,31 @@ impl Actor for Process {
         self.spent
     }
 
-    fn deliver(&mut self, message: &Message) -> Result<Outputs, NoMemory> {
+    fn deliver(&mut self, message: &Message) -> Result<Outputs, NoMemory>
+        ensures identity { identity self.new ≡ identity self.old }
+        ensures spent { self.new.spent ≡ is_err result }
+        ensures outputs { IfOk result (λ outputs. (acts : List Act) → Stands self.old acts → IsInRange message.now → outputs ≡ outputs_of (identity self.old) acts (Took message.now)) }
+        ensures stands { OnOk result ((acts : List Act) → Stands self.old acts → IsInRange message.now → Stands self.new (Took message.now ∷ acts)) }
+    {
         let outcome = self.take(message);
         self.spent = outcome.is_err();
         outcome
     }
 
-    fn fire(&mut self, inner: Inner) -> Result<Outputs, NoMemory> {
+    fn fire(&mut self, inner: Inner) -> Result<Outputs, NoMemory>
+        ensures identity { identity self.new ≡ identity self.old }
+        ensures spent { self.new.spent ≡ is_err result }
+        ensures outputs { IfOk result (λ outputs. (acts : List Act) → Stands self.old acts → outputs ≡ outputs_of (identity self.old) acts (Did inner)) }
+        ensures stands { OnOk result ((acts : List Act) → Stands self.old acts → Stands self.new (Did inner ∷ acts)) }
+    {
         let outcome = self.act(inner);
         self.spent = outcome.is_err();
         outcome
     }
 
-    fn next_inner(&self) -> Option<Inner> {
+    fn next_inner(&self) -> Option<Inner>
+        ensures { (acts : List Act) → Stands self.now acts → result ≡ enabled (identity self.now) acts }
+    {
         if self.told < self.clock {
             Some(Inner::Announce)
         } else {
