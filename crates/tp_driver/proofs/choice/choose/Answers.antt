@@ -7,8 +7,13 @@ use Rattle.tp_driver.specs.Driving.{own_steps}
 
 pub overflow_add-all : goal.overflow_add-all
 overflow_add-all g c =
-    omega (arith, c.len-outputs.ensures.small, c.count_own.ensures.few, c.requires.cast.many,
-    few_actors c.args.script.now c.requires.served.accepted.shape c.requires.served.accepted.sessions)
+    omega (
+      arith,
+      c.len-outputs.ensures.small,
+      c.count_own.ensures.few,
+      c.requires.cast.many,
+      few_actors c.args.script.now c.requires.served.accepted.shape c.requires.served.accepted.sessions,
+    )
 
 pub returns-then-all-eq0 : goal.returns-then-all-eq0
 returns-then-all-eq0 g c =

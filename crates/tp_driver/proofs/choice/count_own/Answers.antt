@@ -8,13 +8,23 @@ pub loop-actor-preserved : goal.loop-actor-preserved
 loop-actor-preserved g c = elim c.if-is_some.branch [
   | then-is_some w ↦ (
     omega (arith, c.loop-actor.invariant.0, w.count-is),
-    λ script journal all. omega (arith, w.count-is, c.loop-actor.invariant.1 script journal all,
-        step_count g.A.Actor.identity_of g.A.Actor.is_spent g.A.Actor.stands script c.args.actors.now journal all c.loop-actor.actor-index c.actor-item.result (slice_get_read c.args.actors.now _ c.loop-actor.actor-index c.actor-item.result refl c.loop-actor-test.true c.actor-item.is) c.next_inner.result c.next_inner.ensures, count_some c.next_inner.result (sym c.is_some.ensures ∙ w.if-is_some.true)),
+    λ script journal all. omega (
+      arith,
+      w.count-is,
+      c.loop-actor.invariant.1 script journal all,
+      step_count g.A.Actor.identity_of g.A.Actor.is_spent g.A.Actor.stands script c.args.actors.now journal all c.loop-actor.actor-index c.actor-item.result (slice_get_read c.args.actors.now _ c.loop-actor.actor-index c.actor-item.result refl c.loop-actor-test.true c.actor-item.is) c.next_inner.result c.next_inner.ensures,
+      count_some c.next_inner.result (sym c.is_some.ensures ∙ w.if-is_some.true),
+    ),
   )
   | else-is_some w ↦ (
     omega (arith, c.loop-actor.invariant.0, w.count-is),
-    λ script journal all. omega (arith, w.count-is, c.loop-actor.invariant.1 script journal all,
-        step_count g.A.Actor.identity_of g.A.Actor.is_spent g.A.Actor.stands script c.args.actors.now journal all c.loop-actor.actor-index c.actor-item.result (slice_get_read c.args.actors.now _ c.loop-actor.actor-index c.actor-item.result refl c.loop-actor-test.true c.actor-item.is) c.next_inner.result c.next_inner.ensures, count_none c.next_inner.result (sym c.is_some.ensures ∙ w.if-is_some.false)),
+    λ script journal all. omega (
+      arith,
+      w.count-is,
+      c.loop-actor.invariant.1 script journal all,
+      step_count g.A.Actor.identity_of g.A.Actor.is_spent g.A.Actor.stands script c.args.actors.now journal all c.loop-actor.actor-index c.actor-item.result (slice_get_read c.args.actors.now _ c.loop-actor.actor-index c.actor-item.result refl c.loop-actor-test.true c.actor-item.is) c.next_inner.result c.next_inner.ensures,
+      count_none c.next_inner.result (sym c.is_some.ensures ∙ w.if-is_some.false),
+    ),
   )
 ]
 

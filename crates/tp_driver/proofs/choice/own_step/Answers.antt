@@ -24,5 +24,8 @@ loop-actor-preserved g c = λ script journal all. elim c.match-next_inner.branch
 
 pub returns-clause-none : goal.returns-clause-none
 returns-clause-none g c = λ script journal all within none.
-    omega (arith, c.loop-actor.invariant script journal all,
-    all_steps g.A.Actor.identity_of g.A.Actor.is_spent g.A.Actor.stands script c.args.actors.now journal all c.loop-actor.actor-index (omega (arith, c.loop-actor-test.false, c.loop-actor.auto.actor-index-end)))
+    omega (
+      arith,
+      c.loop-actor.invariant script journal all,
+      all_steps g.A.Actor.identity_of g.A.Actor.is_spent g.A.Actor.stands script c.args.actors.now journal all c.loop-actor.actor-index (omega (arith, c.loop-actor-test.false, c.loop-actor.auto.actor-index-end)),
+    )

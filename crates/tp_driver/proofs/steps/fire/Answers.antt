@@ -26,9 +26,11 @@ pub fire-requires-clause-may : goal.fire-requires-clause-may
 fire-requires-clause-may g c =
     let before = there g.A.Actor.identity_of g.A.Actor.is_spent g.A.Actor.stands c.args.script.now c.args.actors.now c.args.journal.now c.requires.cast c.args.name c.requires.next.own.known c.place_of-home.result c.place_of-home.ensures c.index-actors-home.result in
     let may = may_make c.args.script.now c.requires.served (reverse c.args.journal.now)
-    (as_history c.args.script.now c.requires.served c.args.journal.now c.requires.driven.run) c.args.name c.args.inner c.requires.next.own.enabled in
-    (acts (reverse c.args.journal.now) c.args.name, before.2,
-    subst (λ i. MayMake i (acts (reverse c.args.journal.now) c.args.name) c.args.inner) (sym before.0) may.0)
+    (as_history c.args.script.now c.requires.served c.args.journal.now c.requires.driven.run) c.args.name c.args.inner c.requires.next.own.enabled in (
+      acts (reverse c.args.journal.now) c.args.name,
+      before.2,
+      subst (λ i. MayMake i (acts (reverse c.args.journal.now) c.args.name) c.args.inner) (sym before.0) may.0,
+    )
 
 pub returns-clause-driven : goal.returns-clause-driven
 returns-clause-driven g c =
