@@ -78,7 +78,7 @@ fn deliver<A: Actor>(
 {
     let (entry, place) = waiting.take(i);
     let Some(message) = journal.output(entry, place) else {
-        return Err(NoMemory);
+        return Ok(());
     };
     let to = message.to;
     let home = place_of(script, to);

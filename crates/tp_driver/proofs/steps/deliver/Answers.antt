@@ -25,6 +25,18 @@ deliver-requires-clause-unspent g c =
 pub deliver-requires-clause-range : goal.deliver-requires-clause-range
 deliver-requires-clause-range g c = m_range c.args.script.now c.requires.served c.args.journal.now c.requires.driven.run c.args.waiting.now c.requires.waiting c.args.i c.take-entry.result.0 c.take-entry.result.1 c.requires.next c.take-entry.ensures.taken c.in-Some.message.now c.in-Some.ensures
 
+pub returns-in_default-clause-more : goal.returns-in_default-clause-more
+returns-in_default-clause-more g c =
+    let there = first_output c.args.script.now c.requires.served c.args.journal.now c.requires.driven.run c.args.waiting.now c.requires.waiting c.args.i c.take-entry.result.0 c.take-entry.result.1 c.requires.next c.take-entry.ensures.taken in
+    let gone = c.in_default.ensures in
+    absurd cc
+
+pub returns-in_default-clause-waiting : goal.returns-in_default-clause-waiting
+returns-in_default-clause-waiting g c =
+    let there = first_output c.args.script.now c.requires.served c.args.journal.now c.requires.driven.run c.args.waiting.now c.requires.waiting c.args.i c.take-entry.result.0 c.take-entry.result.1 c.requires.next c.take-entry.ensures.taken in
+    let gone = c.in_default.ensures in
+    absurd cc
+
 pub returns-clause-driven : goal.returns-clause-driven
 returns-clause-driven g c =
     subst (IsDriven c.args.script.now) (sym c.in_ok-enter.ensures.entered)
