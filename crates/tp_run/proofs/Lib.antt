@@ -1,3 +1,3 @@
 pub mod Casting
-pub mod FormTexts
+pub mod TextLaws
 pub mod TopCalls

@@ -1,15 +1,16 @@
 -- Lists of words, and an input that was read whole, for the top call.
-use Rattle.std.proofs.Common.{◌≡◌, ℕ, ◌+◌, ◌<◌, ◌≤◌, ◌⊎◌, inl, inr, List, [], ◌∷◌, sym, ◌∙◌, ap, subst, arith, length, get_or, take, min, map, Option, Some, None, Result, Ok, Err, IfOk, IfSome, OnOk}
+use Rattle.std.proofs.Common.{true, IfErr, ◌≡◌, ℕ, ◌+◌, ◌<◌, ◌≤◌, ◌⊎◌, inl, inr, List, [], ◌∷◌, sym, ◌∙◌, ap, subst, arith, length, get_or, take, min, map, Option, Some, None, Result, Ok, Err, IfOk, IfSome, OnOk}
 use Rattle.std.proofs.lemmas.List.{take_all, length-take}
-use Rattle.tp_run.specs.Form.{IsFormOf}
 use Rattle.tp_driver.specs.Driving.{IsDriven, IsServed}
 use Rattle.tp_outside.specs.Causes.{Rose}
 use Rattle.tp_rules.proofs.InRange.{run_in_range}
 use Rattle.tp_rules.proofs.Journals.{run_is_free}
 use Rattle.tp_rules.specs.declared.event.Entry.{Entry}
-use Rattle.tp_run.specs.TopCall.{AreInRange, INPUT_MOST, IsFaultOf, IsRefusedFor, IsSaidBy}
+use Rattle.tp_run.specs.Texts.{INPUT_MOST, IsTextOf, cause_of, is_built}
+use Rattle.tp_run.proofs.TextLaws.{front_cause, served_text}
+use Rattle.tp_run.specs.TopCall.{AreInRange, IsCauseOf, IsFaultOf, IsOrMemory, IsRefusedFor, IsSaidBy}
 use Rattle.tp_run.specs.declared.finished.Cause.{Cause}
-use Rattle.tp_run.specs.declared.finished.Cause.TheVariants.{Words, Script as ScriptFault, Input, Read, Write, Memory}
+use Rattle.tp_run.specs.declared.finished.Cause.TheVariants.{Words, Script as ScriptFault, Input, Unbuilt, Read, Write, Memory}
 use Rattle.tp_script.specs.declared.script.Script.{Script}
 
 -- a list of one item is that item
@@ -27,12 +28,42 @@ whole most text bytes is few =
 
 -- the script of what was read is the script of what was left
 pub said_by_whole : (most : ℕ) (left : Option (List ℕ)) (bytes text : List ℕ) (read : Result Script Cause) → text ≡ bytes →
-    IfSome left (λ all. bytes ≡ take (most + 1) all) → IfOk read (IsFormOf text) → OnOk read (length text ≤ most) →
+    IfSome left (λ all. bytes ≡ take (most + 1) all) → IfOk read (IsTextOf text) → OnOk read (length text ≤ most) →
     IfOk read (λ script. IsSaidBy left (Some script))
 said_by_whole most None bytes text (Ok script) same is form few = tt
 said_by_whole most (Some all) bytes text (Ok script) same is form few =
-    subst (λ whole. IsFormOf whole script) (whole most all text (same ∙ is) few) form
+    subst (λ whole. IsTextOf whole script) (whole most all text (same ∙ is) few) form
 said_by_whole most left bytes text (Err cause) same is form few = tt
+
+-- a cause of what was read is that of what was left
+pub refused_by_whole : (left : Option (List ℕ)) (bytes text : List ℕ) (cause : Cause) → text ≡ bytes →
+    IfSome left (λ all. bytes ≡ take (INPUT_MOST + 1) all) → IsRefusedFor (Some text) cause → IsRefusedFor left cause
+refused_by_whole (Some all) bytes text (ScriptFault fault) same is refused = sym (front_cause all text (same ∙ is)) ∙ refused
+refused_by_whole (Some all) bytes text (Input got limit) same is refused = sym (front_cause all text (same ∙ is)) ∙ refused
+refused_by_whole (Some all) bytes text Unbuilt same is refused = sym (front_cause all text (same ∙ is)) ∙ refused
+refused_by_whole (Some all) bytes text Words same is refused = refused
+refused_by_whole (Some all) bytes text Write same is refused = refused
+refused_by_whole (Some all) bytes text Read same is refused = tt
+refused_by_whole (Some all) bytes text Memory same is refused = tt
+refused_by_whole None bytes text (ScriptFault fault) same is refused = tt
+refused_by_whole None bytes text (Input got limit) same is refused = tt
+refused_by_whole None bytes text Unbuilt same is refused = tt
+refused_by_whole None bytes text Words same is refused = refused
+refused_by_whole None bytes text Write same is refused = refused
+refused_by_whole None bytes text Read same is refused = tt
+refused_by_whole None bytes text Memory same is refused = tt
+
+pub all_refused_by_whole : (left : Option (List ℕ)) (bytes text : List ℕ) (read : Result Script Cause) → text ≡ bytes →
+    IfSome left (λ all. bytes ≡ take (INPUT_MOST + 1) all) → IfErr read (IsRefusedFor (Some text)) → IfErr read (IsRefusedFor left)
+all_refused_by_whole left bytes text (Ok script) same is refused = tt
+all_refused_by_whole left bytes text (Err cause) same is refused = refused_by_whole left bytes text cause same is refused
+
+-- what was read has no cause where what was left has none
+pub unrefused_by_whole : (left : Option (List ℕ)) (bytes text : List ℕ) (read : Result Script Cause) → text ≡ bytes →
+    IfSome left (λ all. bytes ≡ take (INPUT_MOST + 1) all) → OnOk read (cause_of text ≡ None) → OnOk read (IfSome left (λ all. cause_of all ≡ None))
+unrefused_by_whole left bytes text (Err cause) same is none = tt
+unrefused_by_whole None bytes text (Ok script) same is none = tt
+unrefused_by_whole (Some all) bytes text (Ok script) same is none = sym (front_cause all text (same ∙ is)) ∙ none
 
 -- a list of one word is this text where the word is
 pub one_word : {A : Type 0} (f : A → List ℕ) (xs : List A) (x : A) (text : List ℕ) (P : Type 0) → xs ≡ x ∷ [] →
@@ -48,28 +79,37 @@ kept_in_range None script journal e served driven = tt
 kept_in_range (Some s) script journal e served driven = run_in_range script served.accepted journal (run_is_free script journal driven.run)
 
 -- with a script, where no count rose, all went well but for memory
-pub complete_with : (before now : ℕ) (cause : Option Cause) → (cause ≡ None) ⊎ (cause ≡ Some Write) ⊎ (cause ≡ Some Memory)
-    → IsFaultOf Write before now cause → ¬ Rose before now → (cause ≡ None) ⊎ (cause ≡ Some Memory)
-complete_with before now cause (inl ok) fault still = inl ok
-complete_with before now cause (inr (inl write)) fault still = absurd (still (fault.rose write))
-complete_with before now cause (inr (inr memory)) fault still = inr memory
+pub exact_with : (before now : ℕ) (cause : Option Cause) → (cause ≡ None) ⊎ (cause ≡ Some Write) ⊎ (cause ≡ Some Memory)
+    → IsFaultOf Write before now cause → ¬ Rose before now → IsOrMemory None cause
+exact_with before now cause (inl ok) fault still = inl ok
+exact_with before now cause (inr (inl write)) fault still = absurd (still (fault.rose write))
+exact_with before now cause (inr (inr memory)) fault still = inr memory
 
--- a text of the form is refused for want of memory alone, where no count rose
-pub complete_refused : (left : Option (List ℕ)) (text : List ℕ) (script : Script) (cause : Cause) (told : Option Cause) → told ≡ Some cause
-    → IsRefusedFor left cause → left ≡ Some text → length text ≤ INPUT_MOST → IsFormOf text script → ¬ (told ≡ Some Read)
-    → (told ≡ None) ⊎ (told ≡ Some Memory)
-complete_refused None text script cause told is refused at few form read = absurd cc
-complete_refused (Some all) text script (ScriptFault fault) told is refused at few form read =
+-- a text that has no cause is run
+pub exact_read : (left : Option (List ℕ)) (text : List ℕ) (told : Option Cause) → IfSome left (λ all. cause_of all ≡ None) → left ≡ Some text
+    → IsOrMemory None told → IsOrMemory (cause_of text) told
+exact_read None text told none at run = absurd cc
+exact_read (Some all) text told none at run =
     let same : all ≡ text = cc in
-    absurd (refused.1.1 script (subst (λ t. IsFormOf t script) (sym same) form))
-complete_refused (Some all) text script (Input got limit) told is refused at few form read =
-    let same : all ≡ text = cc in
-    let count : length all ≡ length text = ap length same in
-    absurd (omega (arith, refused.2))
-complete_refused (Some all) text script Words told is refused at few form read = absurd refused
-complete_refused (Some all) text script Write told is refused at few form read = absurd refused
-complete_refused (Some all) text script Read told is refused at few form read = absurd (read is)
-complete_refused (Some all) text script Memory told is refused at few form read = inr is
+    subst (λ cause. IsOrMemory cause told) (sym none ∙ ap cause_of same) run
+
+-- what is refused where no read failed is refused for the text's own cause, but for memory
+pub exact_refused : (left : Option (List ℕ)) (text : List ℕ) (cause : Cause) (told : Option Cause) → told ≡ Some cause
+    → IsRefusedFor left cause → left ≡ Some text → ¬ (told ≡ Some Read) → IsOrMemory (cause_of text) told
+exact_refused None text cause told is refused at read = absurd cc
+exact_refused (Some all) text (ScriptFault fault) told is refused at read = let same : all ≡ text = cc in inl (is ∙ sym refused ∙ ap cause_of same)
+exact_refused (Some all) text (Input got limit) told is refused at read = let same : all ≡ text = cc in inl (is ∙ sym refused ∙ ap cause_of same)
+exact_refused (Some all) text Unbuilt told is refused at read = let same : all ≡ text = cc in inl (is ∙ sym refused ∙ ap cause_of same)
+exact_refused (Some all) text Words told is refused at read = absurd refused
+exact_refused (Some all) text Write told is refused at read = absurd refused
+exact_refused (Some all) text Read told is refused at read = absurd (read is)
+exact_refused (Some all) text Memory told is refused at read = inr is
+
+-- the text of a script that is served is run
+pub complete : (text : List ℕ) (script : Script) (told : Option Cause) → length text ≤ INPUT_MOST → IsTextOf text script → is_built script ≡ true
+    → IsOrMemory (cause_of text) told → IsOrMemory None told
+complete text script told few is built (inl own) = inl (own ∙ served_text text script few is built)
+complete text script told few is built (inr memory) = inr memory
 
 pub same_cause : {a b : Cause} → Some a ≡ Some b → a ≡ b
 same_cause h = cc

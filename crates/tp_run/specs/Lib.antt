@@ -1,4 +1,4 @@
 pub mod Actors
-pub mod Form
 pub mod Status
+pub mod Texts
 pub mod TopCall

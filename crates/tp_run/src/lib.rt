@@ -4,12 +4,13 @@
 mod any_actor;
 mod cast;
 mod finished;
-mod form;
 mod plain;
+mod text;
 
 pub use any_actor::AnyActor;
 pub use finished::{Cause, Finished};
-pub use plain::{INPUT_LIMIT, tempo_plain};
+pub use plain::tempo_plain;
+pub use text::INPUT_LIMIT;
 
 #[cfg(test)]
 mod tests;

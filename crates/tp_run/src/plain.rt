@@ -1,4 +1,4 @@
-ghost use Rattle.std.specs.Prelude.{◌≡◌, ◌≢◌, ◌⊎◌, ℕ, List, [], ◌++◌, Some, None, map, IfOk, IfErr, IfSome, IsTrue, ◌↔◌, string_bytes, codes, OnOk, length, ◌≤◌};
+ghost use Rattle.std.specs.Prelude.{true, ◌≡◌, ◌≢◌, ◌⊎◌, ℕ, List, [], ◌++◌, Some, None, map, IfOk, IfErr, IfSome, IsTrue, ◌↔◌, string_bytes, codes, OnOk, length, ◌≤◌};
 ghost use Rattle.tp_outside.specs.Causes.{HasCause, Rose};
 ghost use Rattle.tp_outside.specs.Bytes.{AppendsFront};
 ghost use Rattle.std.specs.Io.KnownBytes.{Appends, IsAtEnd, Keeps};
@@ -7,22 +7,19 @@ ghost use Rattle.tp_print.specs.Report.{report_text};
 ghost use Rattle.tp_rules.specs.Pending.{IsPickedRun, IsQuiet};
 ghost use Rattle.tp_rules.specs.Runs.{IsRun};
 ghost use Rattle.tp_script.specs.declared.script.Script.{Script as ScriptValue};
-ghost use Rattle.tp_run.specs.Form.{IsFormOf};
-ghost use Rattle.tp_run.specs.TopCall.{AreInRange, step_words, INPUT_MOST, IsStatusOf, IsSaidBy, IsRefusedFor, IsFaultOf};
+ghost use Rattle.tp_run.specs.Texts.{INPUT_MOST, IsTextOf, cause_of, is_built};
+ghost use Rattle.tp_run.specs.TopCall.{AreInRange, step_words, IsStatusOf, IsSaidBy, IsRefusedFor, IsOrMemory, IsFaultOf};
 
 use crate::cast::cast;
 use crate::finished::{Cause, Finished};
-use crate::form::{FormError, read_form};
+use crate::text::{INPUT_LIMIT, read_text};
 use std::alloc::Global;
 use tp_base::Bytes;
 use tp_driver::drive;
 use tp_journal::Journal;
 use tp_outside::{ReadError, Sink, Source, WriteFault, read_to_limit, write_all};
 use tp_print::report;
-use tp_script::{Script, ScriptCause, ScriptFault};
-
-/// The most bytes that an input may have.
-pub const INPUT_LIMIT: usize = 67_108_864;
+use tp_script::Script;
 
 /// Does what the words say, one step at a time: `step` reads a script, runs it and writes its report.
 /// It takes no lock and waits for nobody.
@@ -38,7 +35,8 @@ pub fn tempo_plain<S: Source, K: Sink>(
     ensures words { (map string_bytes words.now ≢ step_words) ↔ (result.cause ≡ Some Cause.Words) }
     ensures unread { result.cause ≡ Some Cause.Words → (S.left input.new ≡ S.left input.old) × (S.faults input.new ≡ S.faults input.old) }
 
-    // The input is refused where it is too long or of no form. Else it was read to its end, and its script is kept.
+    // The input is refused where it is too long, a line of it is faulty, or its script isn't served, each with its cause.
+    // Else it was read to its end, it is the text of the script, and the script is kept.
     ensures refused { IfSome result.cause (λ cause. result.script ≡ None → cause ≢ Cause.Words → IsRefusedFor (S.left input.old) cause) }
     ensures script { IsSaidBy (S.left input.old) result.script }
     ensures ended { IfSome result.script (λ script. S.ended input.new × IsAtEnd (S.left input.new)) }
@@ -63,8 +61,10 @@ pub fn tempo_plain<S: Source, K: Sink>(
     ensures unwritten { result.script ≡ None → Keeps (K.written out.old) (K.written out.new) }
     ensures served { IfSome result.script (λ script. (result.cause ≡ None) ⊎ (result.cause ≡ Some Cause.Write) ⊎ (result.cause ≡ Some Cause.Memory)) }
 
-    // Where the input is a text of the form and no count of faults rose, the status is 0, but for want of memory.
-    ensures complete { (text : List ℕ) (script : ScriptValue) → map string_bytes words.now ≡ step_words → S.left input.old ≡ Some text → length text ≤ INPUT_MOST → IsFormOf text script → ¬ Rose (S.faults input.old) (S.faults input.new) → ¬ Rose (K.faults out.old) (K.faults out.new) → (result.cause ≡ None) ⊎ (result.cause ≡ Some Cause.Memory) }
+    // Where no count of faults rose, the answer is the text's own, but for want of memory: it is refused for its cause
+    // alone, and the text of each script that is served is run.
+    ensures exact { (text : List ℕ) → map string_bytes words.now ≡ step_words → S.left input.old ≡ Some text → ¬ Rose (S.faults input.old) (S.faults input.new) → ¬ Rose (K.faults out.old) (K.faults out.new) → IsOrMemory (cause_of text) result.cause }
+    ensures complete { (text : List ℕ) (script : ScriptValue) → map string_bytes words.now ≡ step_words → S.left input.old ≡ Some text → length text ≤ INPUT_MOST → IsTextOf text script → is_built script ≡ true → ¬ Rose (S.faults input.old) (S.faults input.new) → ¬ Rose (K.faults out.old) (K.faults out.new) → IsOrMemory None result.cause }
 {
     let journal = Journal::new(alloc);
     if !is_step(words) {
@@ -111,6 +111,7 @@ fn read_input<S: Source>(alloc: Global, input: &mut S) -> Result<Script, Cause>
     ensures script { IfOk result (λ script. IsSaidBy (S.left input.old) (Some script)) }
     ensures served { IfOk result (λ script. IsServed script) }
     ensures ended { OnOk result (S.ended input.new × IsAtEnd (S.left input.new)) }
+    ensures unrefused { OnOk result (IfSome (S.left input.old) (λ text. cause_of text ≡ None)) }
     ensures refused { IfErr result (IsRefusedFor (S.left input.old)) }
     ensures fault { HasCause (S.faults input.old) (S.faults input.new) result Cause.Read }
 {
@@ -120,30 +121,6 @@ fn read_input<S: Source>(alloc: Global, input: &mut S) -> Result<Script, Cause>
         Err(ReadError::NoMemory) => return Err(Cause::Memory),
     };
     read_text(alloc, bytes.as_slice())
-}
-
-// The script that a text is, of which one byte more than an input may have is enough.
-fn read_text(alloc: Global, text: &[u8]) -> Result<Script, Cause>
-    ensures script { IfOk result (IsFormOf text.now) }
-    ensures served { IfOk result (λ script. IsServed script) }
-    ensures short { OnOk result (length text.now ≤ INPUT_MOST) }
-    ensures refused { IfErr result (IsRefusedFor (Some text.now)) }
-    ensures unfailed { IfErr result (λ cause. cause ≢ Cause.Read) }
-{
-    if text.len() > INPUT_LIMIT {
-        return Err(Cause::Input {
-            got: INPUT_LIMIT as u64 + 1,
-            limit: INPUT_LIMIT as u64,
-        });
-    }
-    match read_form(alloc, text) {
-        Ok(script) => Ok(script),
-        Err(FormError::Form) => Err(Cause::Script(ScriptFault {
-            line: 1,
-            cause: ScriptCause::Form,
-        })),
-        Err(FormError::NoMemory) => Err(Cause::Memory),
-    }
 }
 
 // Runs the script, and writes the report of its journal.

@@ -1,0 +1,91 @@
+ghost use Rattle.std.specs.Prelude.{◌≡◌, ◌≢◌, ◌≤◌, None, Some, length, IfErr, IfOk, OnOk};
+ghost use Rattle.tp_driver.specs.Driving.{IsServed};
+ghost use Rattle.tp_run.specs.Texts.{INPUT_MOST, IsTextOf, cause_of, is_built, is_end, read_to_end, script_of};
+ghost use Rattle.tp_run.specs.TopCall.{IsRefusedFor};
+ghost use Rattle.tp_script.specs.Print.{script_lines};
+ghost use Rattle.tp_script.specs.Reading.{Reads};
+ghost use Rattle.tp_text.specs.Lines.{lines_of};
+
+use crate::finished::Cause;
+use std::alloc::Global;
+use tp_script::{Script, ScriptCause, ScriptError, ScriptFault, read_script};
+use tp_text::{LineFault, Lines};
+
+/// The most bytes that an input may have.
+pub const INPUT_LIMIT: usize = 67_108_864;
+
+/// Reads the script that a whole input is, of which one byte more than it may have is enough.
+pub fn read_text(alloc: Global, text: &[u8]) -> Result<Script, Cause>
+    ensures script { IfOk result (IsTextOf text.now) }
+    ensures served { IfOk result (λ script. IsServed script) }
+    ensures short { OnOk result (length text.now ≤ INPUT_MOST) }
+    ensures unrefused { OnOk result (cause_of text.now ≡ None) }
+    ensures refused { IfErr result (IsRefusedFor (Some text.now)) }
+    ensures unfailed { IfErr result (λ cause. cause ≢ Cause.Read) }
+{
+    if text.len() > INPUT_LIMIT {
+        return Err(Cause::Input {
+            got: INPUT_LIMIT as u64 + 1,
+            limit: INPUT_LIMIT as u64,
+        });
+    }
+    let script = match read_to_end(alloc, text) {
+        Ok(script) => script,
+        Err(ScriptError::Fault(fault)) => return Err(Cause::Script(fault)),
+        Err(ScriptError::NoMemory) => return Err(Cause::Memory),
+    };
+    if is_built(&script) {
+        Ok(script)
+    } else {
+        Err(Cause::Unbuilt)
+    }
+}
+
+// The script whose text this is.
+fn read_to_end(alloc: Global, text: &[u8]) -> Result<Script, ScriptError>
+    ensures { Reads (λ script. script) result (script_of text.now) }
+{
+    let mut lines = Lines::new(text);
+    match read_script(alloc, &mut lines) {
+        Ok(script) => ended(script, &mut lines),
+        Err(error) => Err(error),
+    }
+}
+
+// The script that was read, where nothing stands behind its last line.
+fn ended(script: Script, lines: &mut Lines) -> Result<Script, ScriptError>
+    requires counted { lines.old.count ≡ length (script_lines script) }
+    ensures { Reads (λ s. s) result (read_to_end (script, lines_of lines.old.left)) }
+{
+    let line = lines.number() + 1;
+    if is_end(lines) {
+        Ok(script)
+    } else {
+        Err(ScriptError::Fault(ScriptFault {
+            line,
+            cause: ScriptCause::Word,
+        }))
+    }
+}
+
+// Whether nothing is left.
+fn is_end(lines: &mut Lines) -> bool
+    ensures { result ≡ is_end (lines_of lines.old.left) }
+{
+    match lines.next_line() {
+        Ok(_) => false,
+        Err(LineFault::Unended) => false,
+        Err(LineFault::AtEnd) => true,
+    }
+}
+
+// Whether a script has nothing that isn't served yet.
+#[tactic(auto, unfolding(crate::specs::Texts::is_built))]
+fn is_built(script: &Script) -> bool
+    ensures { result ≡ is_built script.now }
+{
+    script.topology.partitions() == 1
+        && script.topology.replicas() == 3
+        && script.homes.len() <= 1
+        && script.plan.is_empty()
+}
