@@ -16,9 +16,6 @@ pub struct ScriptFault {
 /// Why a line is faulty.
 #[derive(Clone, Copy, Debug, PartialEq, Eq, Error)]
 pub enum ScriptCause {
-    /// The text isn't of the one form that is read.
-    #[error("form")]
-    Form,
     /// Line 1 isn't `tempo 1`.
     #[error("header")]
     Header,
