@@ -1,0 +1,31 @@
+ghost use Rattle.std.specs.Prelude.{◌≡◌, IfOk, Ok};
+ghost use Rattle.tp_wire.specs.Meaning.{message_of};
+ghost use Rattle.tp_wire.specs.Ranges.{IsInRange};
+ghost use Rattle.tp_wire.specs.Reading.{Gives, IsReadAs};
+ghost use Rattle.tp_wire.specs.Spelling.{bytes_of};
+ghost use Rattle.tp_wire.specs.declared.message.Message.{Message as MessageValue};
+
+use crate::fault::WireError;
+use crate::message::Message;
+use std::alloc::Global;
+use tp_base::{Bytes, NoMemory};
+
+/// The message whose bytes are all of these.
+pub fn decode(alloc: Global, bytes: &[u8]) -> Result<Message, WireError>
+    // What is decoded is in range, and the bytes spell it.
+    ensures found { IfOk result (λ m. IsInRange m × (bytes.now ≡ bytes_of m)) }
+    // The bytes of a message in range are decoded as it, unless memory runs out.
+    ensures only { (m : MessageValue) → IsInRange m → bytes.now ≡ bytes_of m → IsReadAs m result }
+    // A fault is the first one from the left, with its place.
+    ensures exact { Gives (λ m. m) result (message_of bytes.now) }
+{
+    Err(WireError::NoMemory)
+}
+
+/// The one spelling of a message.
+pub fn encode(alloc: Global, message: &Message) -> Result<Bytes, NoMemory>
+    requires { IsInRange message.now }
+    ensures { IfOk result (λ bytes. bytes ≡ bytes_of message.now) }
+{
+    Err(NoMemory)
+}
