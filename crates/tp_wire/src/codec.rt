@@ -1,14 +1,38 @@
 ghost use Rattle.std.specs.Prelude.{◌≡◌, IfOk, Ok};
-ghost use Rattle.tp_wire.specs.Meaning.{message_of};
+ghost use Rattle.tp_wire.specs.Meaning.{ended_at, message_of, start};
 ghost use Rattle.tp_wire.specs.Ranges.{IsInRange};
 ghost use Rattle.tp_wire.specs.Reading.{Gives, IsReadAs};
 ghost use Rattle.tp_wire.specs.Spelling.{bytes_of};
 ghost use Rattle.tp_wire.specs.declared.message.Message.{Message as MessageValue};
 
-use crate::fault::WireError;
+use crate::bodies::take_message;
+use crate::fault::{WireCause, WireError};
+use crate::fields::fault;
 use crate::message::Message;
 use std::alloc::Global;
-use tp_base::{Bytes, NoMemory};
+use tp_base::{Bytes, Cut, NoMemory};
+
+#[tactic(auto, unfolding(crate::specs::Meaning::ended_at))]
+fn take_end(cut: &mut Cut) -> Result<(), WireError>
+    ensures { Gives (λ _. tt) result (ended_at cut.old) }
+{
+    let place = cut.place();
+    match cut.u8_at() {
+        Ok(_) => Err(fault(place, WireCause::Trailing)),
+        Err(_) => Ok(()),
+    }
+}
+
+// What all of the bytes say.
+#[tactic(auto, unfolding(crate::specs::Meaning::message_of))]
+fn decode_all(alloc: Global, bytes: &[u8]) -> Result<Message, WireError>
+    ensures { Gives (λ m. m) result (message_of bytes.now) }
+{
+    let mut cut = Cut::new(bytes);
+    let message = take_message(alloc, &mut cut)?;
+    take_end(&mut cut)?;
+    Ok(message)
+}
 
 /// The message whose bytes are all of these.
 pub fn decode(alloc: Global, bytes: &[u8]) -> Result<Message, WireError>
