@@ -1,4 +1,5 @@
 pub mod Counted
 pub mod Fielded
-pub mod Numbers
+pub mod Numbered
+pub mod OneByte
 mod Samples

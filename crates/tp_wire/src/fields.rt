@@ -17,7 +17,7 @@ pub(crate) fn fault(place: usize, cause: WireCause) -> WireError
     })
 }
 
-#[tactic(auto, using(crate::proofs::Numbers::one_byte_value), unfolding(crate::specs::Meaning::value_at, crate::specs::Meaning::bytes_at))]
+#[tactic(auto, using(crate::proofs::OneByte::one_byte_value), unfolding(crate::specs::Meaning::value_at, crate::specs::Meaning::bytes_at))]
 pub(crate) fn take_u8(cut: &mut Cut) -> Result<u8, WireError>
     ensures { Gives (λ n. (n, cut.new)) result (value_at 1 cut.old) }
 {
