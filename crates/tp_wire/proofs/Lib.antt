@@ -1,5 +1,8 @@
+pub mod Chosen
 pub mod Counted
 pub mod Fielded
+pub mod Listed
+pub mod Named
 pub mod Numbered
 pub mod OneByte
 mod Samples
