@@ -1,4 +1,5 @@
 pub mod Chosen
+pub mod Commanded
 pub mod Counted
 pub mod Fielded
 pub mod Listed
