@@ -3,6 +3,7 @@ pub mod Commanded
 pub mod Counted
 pub mod Fielded
 pub mod Listed
+pub mod Messages
 pub mod Named
 pub mod Numbered
 pub mod OneByte
