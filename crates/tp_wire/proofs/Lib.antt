@@ -8,3 +8,4 @@ pub mod Named
 pub mod Numbered
 pub mod OneByte
 mod Samples
+pub mod WireLaws

@@ -43,7 +43,7 @@ pub fn decode(alloc: Global, bytes: &[u8]) -> Result<Message, WireError>
     // A fault is the first one from the left, with its place.
     ensures exact { Gives (λ m. m) result (message_of bytes.now) }
 {
-    Err(WireError::NoMemory)
+    decode_all(alloc, bytes)
 }
 
 /// The one spelling of a message.
