@@ -3,7 +3,7 @@ ghost use Rattle.std.specs.List.{flat_map};
 ghost use Rattle.tp_base.specs.Lists.{Each};
 ghost use Rattle.tp_ops.specs.Limits.{IsAnswer, IsCommand, IsOp, IsValue};
 ghost use Rattle.tp_wire.specs.Ranges.{IsInRange};
-ghost use Rattle.tp_wire.specs.Spelling.{actor, answer, answers as answers_bytes, command as command_bytes, fields_of, id as id_bytes, joined, kind_of, made_byte, op as op_bytes, pair as pair_bytes, pairs as pairs_bytes, text};
+ghost use Rattle.tp_wire.specs.Spelling.{actor, answer, answers as answers_bytes, command as command_bytes, eight, fields_of, id as id_bytes, joined, kind_of, made_byte, op as op_bytes, pair as pair_bytes, pairs as pairs_bytes, text};
 
 use crate::message::{Body, Message};
 use tp_base::{ActorName, CommandId, Made, NoMemory, Pair, Put, Site};
@@ -162,4 +162,103 @@ fn put_answers(put: &mut Put, answers: &[Answer]) -> Result<(), NoMemory>
 {
     put.byte(answers.len() as u8)?;
     put_each_answer(put, answers)
+}
+
+pub(crate) fn kind(body: &Body) -> u8
+    ensures { result ≡ kind_of body.now }
+{
+    match body {
+        Body::MSubmit { .. } => 1,
+        Body::MPropose { .. } => 2,
+        Body::MPayload { .. } => 3,
+        Body::MProposeAck { .. } => 4,
+        Body::MBump { .. } => 5,
+        Body::MConsensus { .. } => 6,
+        Body::MConsensusAck { .. } => 7,
+        Body::MCommit { .. } => 8,
+        Body::MRec { .. } => 9,
+        Body::MRecAck { .. } => 10,
+        Body::MPromises { .. } => 11,
+        Body::MCommitted { .. } => 12,
+        Body::MStable { .. } => 13,
+        Body::MResult { .. } => 14,
+    }
+}
+
+// A command and a stamp or a ballot.
+fn put_command_at(put: &mut Put, command: &Command, n: u64) -> Result<(), NoMemory>
+    requires { IsCommand command.now }
+    ensures { OnOk result (put.new ≡ put.old ++ joined (command_bytes command.now ∷ eight n ∷ [])) }
+{
+    put_command(put, command)?;
+    put.u64_be(n)
+}
+
+// An identifier and a stamp or a ballot.
+fn put_id_at(put: &mut Put, id: CommandId, n: u64) -> Result<(), NoMemory>
+    ensures { OnOk result (put.new ≡ put.old ++ joined (id_bytes id ∷ eight n ∷ [])) }
+{
+    put_id(put, id)?;
+    put.u64_be(n)
+}
+
+/// The fields of a message behind its addressee.
+pub(crate) fn put_fields(put: &mut Put, message: &Message) -> Result<(), NoMemory>
+    requires { IsInRange message.now }
+    ensures { OnOk result (put.new ≡ put.old ++ joined (fields_of message.now.body)) }
+{
+    match &message.body {
+        Body::MSubmit { command } => put_command(put, command),
+        Body::MPropose { command, floor } => put_command_at(put, command, floor.0),
+        Body::MPayload { command } => put_command(put, command),
+        Body::MProposeAck { id, stamp } => put_id_at(put, *id, stamp.0),
+        Body::MBump { id, stamp } => put_id_at(put, *id, stamp.0),
+        Body::MConsensus {
+            command,
+            stamp,
+            ballot,
+        } => {
+            put_command_at(put, command, stamp.0)?;
+            put.u64_be(*ballot)
+        }
+        Body::MConsensusAck { id, ballot } => put_id_at(put, *id, *ballot),
+        Body::MCommit {
+            command,
+            partition,
+            stamp,
+        } => {
+            put_command(put, command)?;
+            put.byte(partition.0)?;
+            put.u64_be(stamp.0)
+        }
+        Body::MRec { command, ballot } => put_command_at(put, command, *ballot),
+        Body::MRecAck {
+            id,
+            stamp,
+            made,
+            accepted,
+            ballot,
+        } => {
+            put_id_at(put, *id, stamp.0)?;
+            put_made(put, *made)?;
+            put.u64_be(*accepted)?;
+            put.u64_be(*ballot)
+        }
+        Body::MPromises { lo, hi, pairs } => {
+            put.u64_be(*lo)?;
+            put.u64_be(*hi)?;
+            put_pairs(put, pairs.as_slice())
+        }
+        Body::MCommitted { command, stamp } => put_command_at(put, command, stamp.0),
+        Body::MStable { id } => put_id(put, *id),
+        Body::MResult {
+            id,
+            partition,
+            answers,
+        } => {
+            put_id(put, *id)?;
+            put.byte(partition.0)?;
+            put_answers(put, answers.as_slice())
+        }
+    }
 }
