@@ -34,9 +34,9 @@ pub case_of : {A M : Type 0} {reader : Reader M} {make : A → M} {texts : A →
     → IsMade reader make texts AllFit → ((a : A) → AllFit a → (text (make a) ≡ n ∷ texts a) × Fits (make a)) → IsCase text Fits n reader
 case_of {texts} {text} {Fits} {n} made to = record {
   takes = λ at x fits e.
-  let taken = made.takes at x fits e in
-  let is = to taken.0 taken.3 in
-  (texts taken.0, subst (λ m. text m ≡ n ∷ texts taken.0) taken.1 is.0, taken.2, subst Fits taken.1 is.1);
+      let taken = made.takes at x fits e in
+      let is = to taken.0 taken.3 in
+      (texts taken.0, subst (λ m. text m ≡ n ∷ texts taken.0) taken.1 is.0, taken.2, subst Fits taken.1 is.1);
 }
 
 nth_case : {M : Type 0} (text : M → List ℕ) (Fits : M → Type 0) (k i : ℕ) (readers : List (Reader M)) (reader : Reader M)
@@ -66,15 +66,15 @@ pub choice_field : {M : Type 0} (cause : WireCause) (readers : List (Reader M)) 
 unfolding choice_at
 choice_field cause readers text Fits cases chosen = record {
   takes = λ at x fits e.
-  let step = bind_ok (value_at 1 at) (λ b. or_fault (fault_at cause at) (nth b.0 readers) >>= λ reader. reader b.1) x e in
-  let inner = bind_ok (or_fault (fault_at cause at) (nth step.0.0 readers)) (λ reader. reader step.0.1) x step.2 in
-  let there = or_ok (fault_at cause at) (nth step.0.0 readers) inner.0 inner.1 in
-  let first = any_byte_field.takes at step.0 fits step.1 in
-  let behind = (case_at text Fits step.0.0 readers inner.0 cases there).takes step.0.1 x (subst (λ (bytes : List ℕ). IsBytes bytes) (sym first.0.input) fits) inner.2 in
-  (subst (λ (t : List ℕ). Takes at t x.1) (sym behind.1) (takes_then at (byte step.0.0) step.0.1 behind.0 x.1 first.0 behind.2), behind.3);
+      let step = bind_ok (value_at 1 at) (λ b. or_fault (fault_at cause at) (nth b.0 readers) >>= λ reader. reader b.1) x e in
+      let inner = bind_ok (or_fault (fault_at cause at) (nth step.0.0 readers)) (λ reader. reader step.0.1) x step.2 in
+      let there = or_ok (fault_at cause at) (nth step.0.0 readers) inner.0 inner.1 in
+      let first = any_byte_field.takes at step.0 fits step.1 in
+      let behind = (case_at text Fits step.0.0 readers inner.0 cases there).takes step.0.1 x (subst (λ (bytes : List ℕ). IsBytes bytes) (sym first.0.input) fits) inner.2 in
+      (subst (λ (t : List ℕ). Takes at t x.1) (sym behind.1) (takes_then at (byte step.0.0) step.0.1 behind.0 x.1 first.0 behind.2), behind.3);
   again = λ at m rest fits e.
-  let is = chosen m fits in
-  let first = any_byte_field.again at is.n (is.rest ++ rest) is.small (e ∙ ap (λ (t : List ℕ). t ++ rest) is.spelled) in
-  let other = is.again first.after rest first.rest_is in
-  record { after = other.after; read = rw (first.read, is.there) other.read; rest_is = other.rest_is };
+      let is = chosen m fits in
+      let first = any_byte_field.again at is.n (is.rest ++ rest) is.small (e ∙ ap (λ (t : List ℕ). t ++ rest) is.spelled) in
+      let other = is.again first.after rest first.rest_is in
+      record { after = other.after; read = rw (first.read, is.there) other.read; rest_is = other.rest_is };
 }

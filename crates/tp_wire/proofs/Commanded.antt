@@ -59,26 +59,51 @@ op_cases : AreCases op IsOp 1 readers
 unfolding op
 op_cases = (
   case_of get_made (λ p fits. (refl, fits.0)),
-  (case_of put_made (λ p fits. (refl, (fits.0, fits.1.0))),
-  (case_of del_made (λ p fits. (refl, fits.0)),
-  (case_of cas_made (λ p fits. (refl, (fits.0, fits.1.0, fits.1.1.0))), tt))))
+  (
+    case_of put_made (λ p fits. (refl, (fits.0, fits.1.0))),
+    (
+      case_of del_made (λ p fits. (refl, fits.0)),
+      (case_of cas_made (λ p fits. (refl, (fits.0, fits.1.0, fits.1.1.0))), tt),
+    ),
+  ),
+)
 
 op_chosen : (o : Op) → IsOp o → IsChosen op readers o
 unfolding op
 op_chosen (Get key) fits = record {
-  n = 1; small = omega arith; reader = get_at; there = refl; rest = text key ++ []; spelled = refl;
+  n = 1;
+  small = omega arith;
+  reader = get_at;
+  there = refl;
+  rest = text key ++ [];
+  spelled = refl;
   again = λ at behind e. get_made.again at (key, tt) behind (fits, tt) e;
 }
 op_chosen (Put key value) fits = record {
-  n = 2; small = omega arith; reader = put_at; there = refl; rest = text key ++ (text value ++ []); spelled = refl;
+  n = 2;
+  small = omega arith;
+  reader = put_at;
+  there = refl;
+  rest = text key ++ (text value ++ []);
+  spelled = refl;
   again = λ at behind e. put_made.again at (key, (value, tt)) behind (fits.0, (fits.1, tt)) e;
 }
 op_chosen (Del key) fits = record {
-  n = 3; small = omega arith; reader = del_at; there = refl; rest = text key ++ []; spelled = refl;
+  n = 3;
+  small = omega arith;
+  reader = del_at;
+  there = refl;
+  rest = text key ++ [];
+  spelled = refl;
   again = λ at behind e. del_made.again at (key, tt) behind (fits, tt) e;
 }
 op_chosen (Cas key old new) fits = record {
-  n = 4; small = omega arith; reader = cas_at; there = refl; rest = text key ++ (text old ++ (text new ++ [])); spelled = refl;
+  n = 4;
+  small = omega arith;
+  reader = cas_at;
+  there = refl;
+  rest = text key ++ (text old ++ (text new ++ []));
+  spelled = refl;
   again = λ at behind e. cas_made.again at (key, (old, (new, tt))) behind (fits.0, (fits.1, (fits.2, tt))) e;
 }
 
@@ -116,26 +141,51 @@ answer_cases : AreCases answer IsAnswer 1 answer_readers
 unfolding answer
 answer_cases = (
   case_of (ends Missing) (λ u _. (refl, tt)),
-  (case_of value_made (λ p fits. (refl, fits.0)),
-  (case_of (ends Yes) (λ u _. (refl, tt)),
-  (case_of (ends No) (λ u _. (refl, tt)), tt))))
+  (
+    case_of value_made (λ p fits. (refl, fits.0)),
+    (
+      case_of (ends Yes) (λ u _. (refl, tt)),
+      (case_of (ends No) (λ u _. (refl, tt)), tt),
+    ),
+  ),
+)
 
 answer_chosen : (a : Answer) → IsAnswer a → IsChosen answer answer_readers a
 unfolding answer
 answer_chosen Missing fits = record {
-  n = 1; small = omega arith; reader = just Missing; there = refl; rest = []; spelled = refl;
+  n = 1;
+  small = omega arith;
+  reader = just Missing;
+  there = refl;
+  rest = [];
+  spelled = refl;
   again = λ at behind e. (ends Missing).again at tt behind tt e;
 }
 answer_chosen (Value value) fits = record {
-  n = 2; small = omega arith; reader = value_answer_at; there = refl; rest = text value ++ []; spelled = refl;
+  n = 2;
+  small = omega arith;
+  reader = value_answer_at;
+  there = refl;
+  rest = text value ++ [];
+  spelled = refl;
   again = λ at behind e. value_made.again at (value, tt) behind (fits, tt) e;
 }
 answer_chosen Yes fits = record {
-  n = 3; small = omega arith; reader = just Yes; there = refl; rest = []; spelled = refl;
+  n = 3;
+  small = omega arith;
+  reader = just Yes;
+  there = refl;
+  rest = [];
+  spelled = refl;
   again = λ at behind e. (ends Yes).again at tt behind tt e;
 }
 answer_chosen No fits = record {
-  n = 4; small = omega arith; reader = just No; there = refl; rest = []; spelled = refl;
+  n = 4;
+  small = omega arith;
+  reader = just No;
+  there = refl;
+  rest = [];
+  spelled = refl;
   again = λ at behind e. (ends No).again at tt behind tt e;
 }
 

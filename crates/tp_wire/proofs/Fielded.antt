@@ -43,7 +43,7 @@ takes_none at = record { parts = refl; input = refl }
 pub ends : {M : Type 0} (m : M) → IsMade {A = Unit {0}} (λ at. Ok (m, at)) (λ _. m) (λ _. []) (λ _. Unit {0})
 ends m = record {
   takes = λ at x fits e. let same = ok_is WireFault (m, at) x e in
-  (tt, ap (λ (y : _ × At). y.0) same, subst (λ (y : _ × At). Takes at [] y.1) same (takes_none at), tt);
+      (tt, ap (λ (y : _ × At). y.0) same, subst (λ (y : _ × At). Takes at [] y.1) same (takes_none at), tt);
   again = λ at u rest fits e. record { after = at; read = refl; rest_is = e };
 }
 
@@ -51,7 +51,7 @@ ends m = record {
 pub last : {A : Type 0} {reader : Reader A} {text : A → List ℕ} {Fits : A → Type 0} → IsField reader text Fits → IsMade reader (λ a. a) (λ a. text a ++ []) Fits
 last {text} field = record {
   takes = λ at x fits e. let taken = field.takes at x fits e in
-  (x.0, refl, subst (λ (t : List ℕ). Takes at t x.1) (sym (append-nil (text x.0))) taken.0, taken.1);
+      (x.0, refl, subst (λ (t : List ℕ). Takes at t x.1) (sym (append-nil (text x.0))) taken.0, taken.1);
   again = λ at a rest fits e. field.again at a rest fits (e ∙ ap (λ (t : List ℕ). t ++ rest) (append-nil (text a)));
 }
 
@@ -61,14 +61,14 @@ pub then_field : {A B M : Type 0} {reader : Reader A} {text : A → List ℕ} {F
     → IsMade {A = A × B} (λ at. reader at >>= λ x. others x.0 x.1) (λ p. make p.0 p.1) (λ p. text p.0 ++ texts p.0 p.1) (λ p. Fits p.0 × AllFit p.0 p.1)
 then_field {reader} {text} {others} {texts} field behind = record {
   takes = λ at x fits e.
-  let step = bind_ok (reader at) (λ y. others y.0 y.1) x e in
-  let first = field.takes at step.0 fits step.1 in
-  let other = (behind step.0.0 first.1).takes step.0.1 x (subst (λ (bytes : List ℕ). IsBytes bytes) (sym first.0.input) fits) step.2 in
-  ((step.0.0, other.0), other.1, takes_then at (text step.0.0) step.0.1 (texts step.0.0 other.0) x.1 first.0 other.2, (first.1, other.3));
+      let step = bind_ok (reader at) (λ y. others y.0 y.1) x e in
+      let first = field.takes at step.0 fits step.1 in
+      let other = (behind step.0.0 first.1).takes step.0.1 x (subst (λ (bytes : List ℕ). IsBytes bytes) (sym first.0.input) fits) step.2 in
+      ((step.0.0, other.0), other.1, takes_then at (text step.0.0) step.0.1 (texts step.0.0 other.0) x.1 first.0 other.2, (first.1, other.3));
   again = λ at p rest fits e.
-  let first = field.again at p.0 (texts p.0 p.1 ++ rest) fits.0 (e ∙ append_assoc (text p.0) (texts p.0 p.1) rest) in
-  let other = (behind p.0 fits.0).again first.after p.1 rest fits.1 first.rest_is in
-  record { after = other.after; read = ap (λ r. r >>= λ x. others x.0 x.1) first.read ∙ other.read; rest_is = other.rest_is };
+      let first = field.again at p.0 (texts p.0 p.1 ++ rest) fits.0 (e ∙ append_assoc (text p.0) (texts p.0 p.1) rest) in
+      let other = (behind p.0 fits.0).again first.after p.1 rest fits.1 first.rest_is in
+      record { after = other.after; read = ap (λ r. r >>= λ x. others x.0 x.1) first.read ∙ other.read; rest_is = other.rest_is };
 }
 
 -- a value made of parts is a field, where its spelling and what it has to be are those of the parts
@@ -79,14 +79,14 @@ pub whole : {A M : Type 0} {reader : Reader M} {make : A → M} {texts : A → L
     → IsField reader text Fits
 whole {reader} {make} {texts} {text} {Fits} made to from = record {
   takes = λ at x fits e.
-  let taken = made.takes at x fits e in
-  let is = to taken.0 taken.3 in
-  subst (λ m. Takes at (text m) x.1 × Fits m) taken.1 (subst (λ (t : List ℕ). Takes at t x.1) (sym is.0) taken.2, is.1);
+      let taken = made.takes at x fits e in
+      let is = to taken.0 taken.3 in
+      subst (λ m. Takes at (text m) x.1 × Fits m) taken.1 (subst (λ (t : List ℕ). Takes at t x.1) (sym is.0) taken.2, is.1);
   again = λ at m rest fits e.
-  let parts = from m fits in
-  let is = to parts.0 parts.2 in
-  let spelled = ap text (sym parts.1) ∙ is.0 in
-  subst (λ y. IsRead reader at y rest) parts.1 (made.again at parts.0 rest parts.2 (e ∙ ap (λ (t : List ℕ). t ++ rest) spelled));
+      let parts = from m fits in
+      let is = to parts.0 parts.2 in
+      let spelled = ap text (sym parts.1) ∙ is.0 in
+      subst (λ y. IsRead reader at y rest) parts.1 (made.again at parts.0 rest parts.2 (e ∙ ap (λ (t : List ℕ). t ++ rest) spelled));
 }
 
 -- the same with another spelling

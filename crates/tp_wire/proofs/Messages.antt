@@ -96,8 +96,8 @@ promises_sent : IsSent promises_at IsProcess IsExecutor (λ (p : Promises). MPro
 unfolding promises_at
 promises_sent = record {
   made = then_field process_field (λ from _. then_field executor_field (λ to _.
-  then_field (eight_field 0 (most - 1) (omega arith)) (λ lo _. then_field (eight_field (lo + 1) most (omega arith)) (λ hi fits.
-  then_field (pairs_field lo hi (omega (arith, fits.0)) (omega (arith, fits.1))) (λ ps _. ends (sent from to (MPromises lo hi ps)))))));
+      then_field (eight_field 0 (most - 1) (omega arith)) (λ lo _. then_field (eight_field (lo + 1) most (omega arith)) (λ hi fits.
+      then_field (pairs_field lo hi (omega (arith, fits.0)) (omega (arith, fits.1))) (λ ps _. ends (sent from to (MPromises lo hi ps)))))));
 }
 
 committed_sent : IsSent committed_at IsProcess IsExecutor (λ (p : Command × (Stamp × Unit {0})). MCommitted p.0 p.1.0) (λ p. IsCommand p.0 × (IsNumber p.1.0.0 × Unit {0}))
@@ -116,19 +116,44 @@ kind_cases : AreCases bytes_of IsInRange 1 kinds
 unfolding bytes_of
 kind_cases = (
   case_of submit_sent.made (λ p fits. (refl, (fits.0, fits.1.0, fits.1.1.0))),
-  (case_of propose_sent.made (λ p fits. (refl, (fits.0, fits.1.0, fits.1.1.0, fits.1.1.1.0))),
-  (case_of payload_sent.made (λ p fits. (refl, (fits.0, fits.1.0, fits.1.1.0))),
-  (case_of propose_ack_sent.made (λ p fits. (refl, (fits.0, fits.1.0, fits.1.1.0, fits.1.1.1.0))),
-  (case_of bump_sent.made (λ p fits. (refl, (fits.0, fits.1.0, fits.1.1.0, fits.1.1.1.0))),
-  (case_of consensus_sent.made (λ p fits. (refl, (fits.0, fits.1.0, fits.1.1.0, fits.1.1.1.0, fits.1.1.1.1.0))),
-  (case_of consensus_ack_sent.made (λ p fits. (refl, (fits.0, fits.1.0, fits.1.1.0, fits.1.1.1.0))),
-  (case_of commit_sent.made (λ p fits. (refl, (fits.0, fits.1.0, fits.1.1.0, fits.1.1.1.0, fits.1.1.1.1.0))),
-  (case_of rec_sent.made (λ p fits. (refl, (fits.0, fits.1.0, fits.1.1.0, fits.1.1.1.0))),
-  (case_of rec_ack_sent.made (λ p fits. (refl, (fits.0, fits.1.0, fits.1.1.0, fits.1.1.1.0, fits.1.1.1.1.1.0, fits.1.1.1.1.1.1.0))),
-  (case_of promises_sent.made (λ p fits. (refl, (fits.0, fits.1.0, omega (arith, fits.1.1.1.0.0), (omega (arith, fits.1.1.1.0.0), fits.1.1.1.0.1), fits.1.1.1.1.0.0, fits.1.1.1.1.0.1))),
-  (case_of committed_sent.made (λ p fits. (refl, (fits.0, fits.1.0, fits.1.1.0, fits.1.1.1.0))),
-  (case_of stable_sent.made (λ p fits. (refl, (fits.0, fits.1.0, fits.1.1.0))),
-  (case_of result_sent.made (λ p fits. (refl, (fits.0, fits.1.0, fits.1.1.0, fits.1.1.1.0, fits.1.1.1.1.0.0, fits.1.1.1.1.0.1))), tt))))))))))))))
+  (
+    case_of propose_sent.made (λ p fits. (refl, (fits.0, fits.1.0, fits.1.1.0, fits.1.1.1.0))),
+    (
+      case_of payload_sent.made (λ p fits. (refl, (fits.0, fits.1.0, fits.1.1.0))),
+      (
+        case_of propose_ack_sent.made (λ p fits. (refl, (fits.0, fits.1.0, fits.1.1.0, fits.1.1.1.0))),
+        (
+          case_of bump_sent.made (λ p fits. (refl, (fits.0, fits.1.0, fits.1.1.0, fits.1.1.1.0))),
+          (
+            case_of consensus_sent.made (λ p fits. (refl, (fits.0, fits.1.0, fits.1.1.0, fits.1.1.1.0, fits.1.1.1.1.0))),
+            (
+              case_of consensus_ack_sent.made (λ p fits. (refl, (fits.0, fits.1.0, fits.1.1.0, fits.1.1.1.0))),
+              (
+                case_of commit_sent.made (λ p fits. (refl, (fits.0, fits.1.0, fits.1.1.0, fits.1.1.1.0, fits.1.1.1.1.0))),
+                (
+                  case_of rec_sent.made (λ p fits. (refl, (fits.0, fits.1.0, fits.1.1.0, fits.1.1.1.0))),
+                  (
+                    case_of rec_ack_sent.made (λ p fits. (refl, (fits.0, fits.1.0, fits.1.1.0, fits.1.1.1.0, fits.1.1.1.1.1.0, fits.1.1.1.1.1.1.0))),
+                    (
+                      case_of promises_sent.made (λ p fits. (refl, (fits.0, fits.1.0, omega (arith, fits.1.1.1.0.0), (omega (arith, fits.1.1.1.0.0), fits.1.1.1.0.1), fits.1.1.1.1.0.0, fits.1.1.1.1.0.1))),
+                      (
+                        case_of committed_sent.made (λ p fits. (refl, (fits.0, fits.1.0, fits.1.1.0, fits.1.1.1.0))),
+                        (
+                          case_of stable_sent.made (λ p fits. (refl, (fits.0, fits.1.0, fits.1.1.0))),
+                          (case_of result_sent.made (λ p fits. (refl, (fits.0, fits.1.0, fits.1.1.0, fits.1.1.1.0, fits.1.1.1.1.0.0, fits.1.1.1.1.0.1))), tt),
+                        ),
+                      ),
+                    ),
+                  ),
+                ),
+              ),
+            ),
+          ),
+        ),
+      ),
+    ),
+  ),
+)
 
 -- ---- all of them
 

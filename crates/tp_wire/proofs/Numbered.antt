@@ -67,14 +67,14 @@ value_field : (width : ℕ) → IsField (value_at width) (big_endian width) (λ 
 unfolding value_at
 value_field width = record {
   takes = λ at x fits e.
-  let step = bind_ok (bytes_at width at) (λ bytes. Ok (big_endian_value bytes.0, bytes.1)) x e in
-  let taken = bytes_taken width at step.0 fits step.1 in
-  let again : big_endian width (big_endian_value step.0.0) ≡ step.0.0 = subst (λ (w : ℕ). big_endian w (big_endian_value step.0.0) ≡ step.0.0) taken.count (big_endian-big_endian_value step.0.0 taken.bytes) in
-  let small : big_endian_value step.0.0 < 256 ^ width = subst (λ (w : ℕ). big_endian_value step.0.0 < 256 ^ w) taken.count (big_endian_value-lt step.0.0 taken.bytes) in
-  subst (λ (y : ℕ × At). Takes at (big_endian width y.0) y.1 × (y.0 < 256 ^ width)) (ok_is WireFault (big_endian_value step.0.0, step.0.1) x step.2) (subst (λ (t : List ℕ). Takes at t step.0.1) (sym again) taken.takes, small);
+      let step = bind_ok (bytes_at width at) (λ bytes. Ok (big_endian_value bytes.0, bytes.1)) x e in
+      let taken = bytes_taken width at step.0 fits step.1 in
+      let again : big_endian width (big_endian_value step.0.0) ≡ step.0.0 = subst (λ (w : ℕ). big_endian w (big_endian_value step.0.0) ≡ step.0.0) taken.count (big_endian-big_endian_value step.0.0 taken.bytes) in
+      let small : big_endian_value step.0.0 < 256 ^ width = subst (λ (w : ℕ). big_endian_value step.0.0 < 256 ^ w) taken.count (big_endian_value-lt step.0.0 taken.bytes) in
+      subst (λ (y : ℕ × At). Takes at (big_endian width y.0) y.1 × (y.0 < 256 ^ width)) (ok_is WireFault (big_endian_value step.0.0, step.0.1) x step.2) (subst (λ (t : List ℕ). Takes at t step.0.1) (sym again) taken.takes, small);
   again = λ at n rest fits e.
-  let is = bytes_again width at (big_endian width n) rest (length-big_endian width n) e in
-  record { after = is.after; read = rw (is.read, big_endian_value-big_endian width n fits) refl; rest_is = is.rest_is };
+      let is = bytes_again width at (big_endian width n) rest (length-big_endian width n) e in
+      record { after = is.after; read = rw (is.read, big_endian_value-big_endian width n fits) refl; rest_is = is.rest_is };
 }
 
 in_range : (low high n : ℕ) → is_from low high n ≡ true → IsFrom low high n
@@ -87,14 +87,14 @@ pub number_field : (width low high : ℕ) → high < 256 ^ width → IsField (nu
 unfolding number_at
 number_field width low high small = record {
   takes = λ at x fits e.
-  let step = bind_ok (value_at width at) (λ n. need (is_from low high n.0) (fault_at Range at) >>= λ _. Ok n) x e in
-  let taken = (value_field width).takes at step.0 fits step.1 in
-  let there = need_ok (is_from low high step.0.0) (fault_at Range at) (Ok step.0) x step.2 in
-  subst (λ (y : ℕ × At). Takes at (big_endian width y.0) y.1 × IsFrom low high y.0) (ok_is WireFault step.0 x there.1) (taken.0, in_range low high step.0.0 there.0);
+      let step = bind_ok (value_at width at) (λ n. need (is_from low high n.0) (fault_at Range at) >>= λ _. Ok n) x e in
+      let taken = (value_field width).takes at step.0 fits step.1 in
+      let there = need_ok (is_from low high step.0.0) (fault_at Range at) (Ok step.0) x step.2 in
+      subst (λ (y : ℕ × At). Takes at (big_endian width y.0) y.1 × IsFrom low high y.0) (ok_is WireFault step.0 x there.1) (taken.0, in_range low high step.0.0 there.0);
   again = λ at n rest fits e.
-  let below : n < 256 ^ width = omega (arith, fits.1) in
-  let is = (value_field width).again at n rest below e in
-  record { after = is.after; read = rw (is.read, range_in low high n fits) refl; rest_is = is.rest_is };
+      let below : n < 256 ^ width = omega (arith, fits.1) in
+      let is = (value_field width).again at n rest below e in
+      record { after = is.after; read = rw (is.read, range_in low high n fits) refl; rest_is = is.rest_is };
 }
 
 pub byte_field : (low high : ℕ) → high < 256 → IsField (number_at 1 low high) byte (IsFrom low high)

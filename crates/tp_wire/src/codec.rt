@@ -9,8 +9,9 @@ use crate::bodies::take_message;
 use crate::fault::{WireCause, WireError};
 use crate::fields::fault;
 use crate::message::Message;
+use crate::writing::{kind, put_actor, put_fields};
 use std::alloc::Global;
-use tp_base::{Bytes, Cut, NoMemory};
+use tp_base::{Bytes, Cut, NoMemory, Put};
 
 #[tactic(auto, unfolding(crate::specs::Meaning::ended_at))]
 fn take_end(cut: &mut Cut) -> Result<(), WireError>
@@ -47,9 +48,15 @@ pub fn decode(alloc: Global, bytes: &[u8]) -> Result<Message, WireError>
 }
 
 /// The one spelling of a message.
+#[tactic(auto, unfolding(crate::specs::Spelling::bytes_of))]
 pub fn encode(alloc: Global, message: &Message) -> Result<Bytes, NoMemory>
     requires { IsInRange message.now }
     ensures { IfOk result (λ bytes. bytes ≡ bytes_of message.now) }
 {
-    Err(NoMemory)
+    let mut put = Put::new(alloc);
+    put.byte(kind(&message.body))?;
+    put_actor(&mut put, message.from)?;
+    put_actor(&mut put, message.to)?;
+    put_fields(&mut put, message)?;
+    Ok(put.finish())
 }

@@ -8,6 +8,7 @@ mod fault;
 mod fields;
 mod message;
 mod names;
+mod writing;
 
 pub use codec::{decode, encode};
 pub use fault::{WireCause, WireError, WireFault};
