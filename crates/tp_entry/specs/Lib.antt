@@ -1,0 +1,5 @@
+pub mod Journals
+pub mod Kinds
+pub mod Meaning
+pub mod Print
+pub mod Reading
