@@ -119,6 +119,7 @@ impl Process {
             Body::MPropose { command, floor } => { self.on_propose(message.from, command, *floor) }
             Body::MPayload { command } => self.on_payload(command),
             Body::MProposeAck { id, stamp } => self.on_propose_ack(message.from, *id, *stamp),
+            Body::MBump { id: _, stamp } => Ok(self.on_bump(*stamp)),
             Body::MCommit {
                 command,
                 partition,

@@ -30,7 +30,7 @@ fn bytes(alloc: Global, byte: u8) -> Result<Bytes, NoMemory> {
 fn command(alloc: Global) -> Result<Command, NoMemory> {
     let mut ops = Sequence::new(alloc);
     ops.add(Op::Get {
-        key: bytes(alloc, 0x61)?,
+        key: bytes(alloc, 0x62)?,
     })?;
     Ok(Command {
         id: ID,
@@ -60,6 +60,31 @@ fn proposal(alloc: Global) -> Result<Message, NoMemory> {
         floor: Stamp(5),
     };
     Ok(message(ActorName::Process(site(1)), 2, body))
+}
+
+/// A proposal of at least 1 is asked of rank 4.
+fn floored(alloc: Global) -> Result<Message, NoMemory> {
+    let body = Body::MPropose {
+        command: command(alloc)?,
+        floor: Stamp(1),
+    };
+    Ok(message(ActorName::Process(site(1)), 4, body))
+}
+
+/// Another command's proposal in the second partition.
+fn bump() -> Message {
+    let from = Site {
+        partition: PartitionId(2),
+        rank: Rank(4),
+    };
+    let body = Body::MBump {
+        id: CommandId {
+            session: SessionId(9),
+            number: 1,
+        },
+        stamp: Stamp(1),
+    };
+    message(ActorName::Process(from), 4, body)
 }
 
 fn acknowledgement() -> Message {
@@ -115,6 +140,29 @@ fn proposed_once(rt: HostRuntime) -> Result<(), Fail> {
     assert_eq!(rt; process.clock(), 5, "at least the floor");
     let repeated = process.deliver(&proposal(alloc)?)?;
     assert_eq!(rt; repeated.len(), 0);
+    Ok(())
+}
+
+/// The process of rank 4 of five, in the first of two partitions.
+fn fourth(alloc: Global) -> Result<Process, Fail> {
+    let topology = Topology::new(2, 5, 2)?;
+    let site = Site {
+        partition: PartitionId(1),
+        rank: Rank(4),
+    };
+    Ok(Process::new(alloc, &topology, site))
+}
+
+#[test]
+fn proposed_above_a_bump(rt: HostRuntime) -> Result<(), Fail> {
+    let alloc = rt.alloc();
+    let mut process = fourth(alloc)?;
+    let told = process.deliver(&bump())?;
+    assert_eq!(rt; told.len(), 0);
+    assert_eq!(rt; process.clock(), 1);
+    let answered = process.deliver(&floored(alloc)?)?;
+    assert_eq!(rt; answered.len(), 1);
+    assert_eq!(rt; process.clock(), 2);
     Ok(())
 }
 

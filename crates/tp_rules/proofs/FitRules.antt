@@ -32,7 +32,7 @@ use Rattle.tp_script.specs.declared.script.Script.{Script}
 use Rattle.tp_topology.specs.Shape.{fast_size}
 use Rattle.tp_wire.specs.Ranges.{IsBody, IsNumber}
 use Rattle.tp_wire.specs.declared.message.Body.{Body}
-use Rattle.tp_wire.specs.declared.message.Body.TheVariants.{MSubmit, MPropose, MPayload, MProposeAck, MCommit}
+use Rattle.tp_wire.specs.declared.message.Body.TheVariants.{MSubmit, MPropose, MPayload, MProposeAck, MBump, MCommit}
 
 module _ (script : Script) (accepted : IsAccepted script) (in_quorum : Command → ℕ → Bool) (me : Site)
     (here : is_site_of script.topology me ≡ true) where
@@ -258,6 +258,7 @@ module _ (script : Script) (accepted : IsAccepted script) (in_quorum : Command �
   body_fit from to (MPropose c floor) state sound range ours named at room = propose_fit from c floor.0 state sound (range.0, known_process script from range.0 named) (brought c ours at) room
   body_fit from to (MPayload c) state sound range ours named at room = payload_fit c state sound (brought c ours at) room
   body_fit from to (MProposeAck id t) state sound range ours named at room = propose_ack_fit from id t.0 state sound range.3 room
+  body_fit from to (MBump id t) state sound range ours named at room = (bumped_sound script me.partition.0 t.0 state sound room, tt)
   body_fit from to (MCommit c q t) state sound range ours named at room = commit_fit c q.0 t.0 state sound (commit_brought c q.0 ours at) range.4 room
   body_fit from to _ state sound range ours named at room = (sound, tt)
 

@@ -1,4 +1,5 @@
 -- Five replicas, of which two may fail: the greatest proposal is decided at once where two made it, and put to the vote where one did.
+-- A bump of another partition moves the clock, and what is proposed after it lies above.
 use Rattle.std.proofs.Common.{◌≡◌, ℕ, [], ◌∷◌, refl}
 use Rattle.tp_ops.specs.declared.command.Command.{Command}
 use Rattle.tp_ops.specs.declared.operation.Op.TheVariants.{Put}
@@ -9,7 +10,7 @@ use Rattle.tp_rules.specs.Process.{state_after}
 use Rattle.tp_rules.specs.Rules.{outputs_of}
 use Rattle.tp_rules.specs.Sheet.{ring_setting}
 use Rattle.tp_topology.specs.Shape.{Shape}
-use Rattle.tp_wire.specs.declared.message.Body.TheVariants.{MSubmit, MPropose, MPayload, MProposeAck, MConsensus, MCommit, MCommitted}
+use Rattle.tp_wire.specs.declared.message.Body.TheVariants.{MSubmit, MPropose, MPayload, MProposeAck, MBump, MConsensus, MCommit, MCommitted}
 
 abbrev five : Shape
 five = record { partitions = 2; replicas = 5; failures = 2 }
@@ -71,3 +72,26 @@ fast = refl
 fast_clock : (state_after (ring_setting five) (site 1 1) (acknowledged 4 2 ∷ acknowledged 3 2 ∷ acknowledged 2 1 ∷ submitted ∷ [])).clock ≡ 2
 unfolding the_rules
 fast_clock = refl
+
+-- another command's bump, from the same rank of the other partition
+
+abbrev fourth : Identity
+fourth = ProcessAt five (site 1 4)
+
+abbrev bump : Act
+bump = Took (message (process_at 2 4) (process_at 1 4) (MBump (id 9 1) (stamp 1)))
+
+abbrev asked : Act
+asked = Took (message (process_at 1 1) (process_at 1 4) (MPropose put_b (stamp 1)))
+
+bump_sends_nothing : outputs_of fourth [] bump ≡ []
+unfolding the_rules
+bump_sends_nothing = refl
+
+bump_clock : (state_after (ring_setting five) (site 1 4) (bump ∷ [])).clock ≡ 1
+unfolding the_rules
+bump_clock = refl
+
+proposes_above : outputs_of fourth (bump ∷ []) asked ≡ message (process_at 1 4) (process_at 1 1) (MProposeAck (id 1 1) (stamp 2)) ∷ []
+unfolding the_rules
+proposes_above = refl

@@ -11,7 +11,7 @@ use Rattle.tp_rules.specs.Rules.{enabled}
 use Rattle.tp_rules.specs.Sheet.{ring_setting}
 use Rattle.tp_rules.specs.declared.event.Inner.TheVariants.{Announce}
 use Rattle.tp_topology.specs.Shape.{Shape}
-use Rattle.tp_wire.specs.declared.message.Body.TheVariants.{MSubmit, MPropose, MPayload, MProposeAck, MCommit, MPromises}
+use Rattle.tp_wire.specs.declared.message.Body.TheVariants.{MSubmit, MPropose, MPayload, MProposeAck, MBump, MCommit, MPromises}
 use Rattle.tp_wire.specs.declared.message.Message.{Message}
 
 -- two partitions of five replicas, of which two may fail
@@ -52,6 +52,9 @@ payload k c = message (process_at 1 1) (process_at 1 k) (MPayload c)
 
 abbrev acknowledge : ℕ → ℕ → Message
 acknowledge from k = message (process_at 1 from) (process_at 1 k) (MProposeAck (id 1 1) (stamp 1))
+
+abbrev bump : ℕ → ℕ → Message
+bump k t = message (process_at 2 k) (process_at 1 k) (MBump (id 9 1) (stamp t))
 
 abbrev commit : ℕ → Command → ℕ → ℕ → Message
 commit k c q t = message (process_at 1 2) (process_at 1 k) (MCommit c (partition q) (stamp t))
@@ -116,6 +119,15 @@ acknowledge_own = refl
 acknowledge_decided : IsIgnored 1 (Took (commit 1 put_b 1 1) ∷ Took (submit 1 put_b) ∷ []) (acknowledge 2 1)
 unfolding the_rules
 acknowledge_decided = refl
+
+-- MBump
+bump_below_the_clock : IsIgnored 2 (Took (propose 2 put_b 7) ∷ []) (bump 2 6)
+unfolding the_rules
+bump_below_the_clock = refl
+
+bump_without_room : IsIgnored 2 [] (bump 2 (2 ^ 48))
+unfolding the_rules
+bump_without_room = refl
 
 -- MCommit
 commit_of_other_partition : IsIgnored 2 [] (commit 2 put_b 2 1)

@@ -152,6 +152,10 @@ on_propose_ack s me from id t state = cond (can_acknowledge s me.partition.0 me.
     (gathered s me id (acknowledged (rank_of from) t (state.sheets id)) state)
     (state, [])
 
+-- MBump(id, t)
+abbrev pub on_bump : ℕ → ProcessState → Moved
+on_bump t state = (bumped t state, [])
+
 -- MCommit(c, q, t), where c accesses q
 abbrev pub on_commit : Setting → Site → Command → ℕ → ℕ → ProcessState → Moved
 on_commit s me c q t state = cond (is_accessed s.shape.partitions c q)
@@ -178,6 +182,7 @@ on_body s me from (MSubmit c) state = on_submit s me c state
 on_body s me from (MPropose c floor) state = on_propose s me from c floor.0 state
 on_body s me from (MPayload c) state = on_payload c state
 on_body s me from (MProposeAck id t) state = on_propose_ack s me from id t.0 state
+on_body s me from (MBump id t) state = on_bump t.0 state
 on_body s me from (MCommit c q t) state = on_commit s me c q.0 t.0 state
 on_body s me from _ state = (state, [])
 
