@@ -1,11 +1,12 @@
 -- What the blank sheet says.
-use Rattle.std.proofs.Common.{◌≡◌, ℕ, zero, suc, Bool, true, false, Option, None, replicate, refl}
-use Rattle.std.specs.Prelude.{slice_get, ◌&&◌}
+use Rattle.std.proofs.Common.{◌≡◌, ℕ, zero, suc, Bool, true, false, Option, None, replicate, refl, ap, ◌∙◌, arith}
+use Rattle.std.proofs.lemmas.Bool.{and_parts, eqb-true, le-leb, ltb-true}
+use Rattle.std.specs.Prelude.{slice_get, ◌&&◌, ◌==◌, nat_lt}
 use Rattle.tp_base.specs.declared.names.Site.{Site}
 use Rattle.tp_rules.specs.Addresses.{is_between}
-use Rattle.tp_rules.specs.Sheet.{blank, is_fresh}
+use Rattle.tp_rules.specs.Sheet.{blank, can_accept, is_fresh}
 use Rattle.tp_rules.specs.Tables.{kept_at, flat}
-use Rattle.tp_sheet.specs.SiteSheet.{blank_at, takes_acknowledgement, choice_by, with_acknowledgement, final_of}
+use Rattle.tp_sheet.specs.SiteSheet.{blank_at, takes_acknowledgement, choice_by, with_acknowledgement, takes_vote, decision_by, with_vote_of, final_of}
 use Rattle.tp_topology.specs.Shape.{Shape}
 
 empty_place : (n i : ℕ) → flat (slice_get (replicate n (let none : Option ℕ = None in none)) i) ≡ None
@@ -42,3 +43,27 @@ blank-choice shape site rank t = rw (blank-takes shape site rank) refl
 
 pub blank-acknowledges : (shape : Shape) (site : Site) (rank t : ℕ) → with_acknowledgement rank t (blank_at shape site) ≡ blank_at shape site
 blank-acknowledges shape site rank t = rw (blank-takes shape site rank) refl
+
+pub blank-accepts : (shape : Shape) (p b : ℕ) → can_accept p b (blank shape) ≡ true
+unfolding blank
+blank-accepts shape p b = rw (empty_table shape.partitions p) (le-leb 0 b (omega arith))
+
+-- nothing is put, so no ballot is one of what is put
+no_ballot : (unknown : Bool) (b : ℕ) (counts : Bool) → (unknown && nat_lt 0 b && (0 == b)) ≡ counts → counts ≡ false
+no_ballot unknown b false e = refl
+no_ballot unknown b true e =
+    let both = and_parts (unknown && nat_lt 0 b) (0 == b) e in
+    let some = ltb-true 0 b (and_parts unknown (nat_lt 0 b) both.0).1 in
+    let none = eqb-true 0 b both.1 in
+    absurd (omega (arith, some, none))
+
+blank-takes_vote : (shape : Shape) (site : Site) (rank b : ℕ) → takes_vote rank b (blank_at shape site) ≡ false
+unfolding blank
+blank-takes_vote shape site rank b =
+    ap (λ (counts : Bool). is_between rank shape.replicas && counts) (no_ballot _ b _ refl) ∙ never (is_between rank shape.replicas)
+
+pub blank-decision : (shape : Shape) (site : Site) (rank b : ℕ) → decision_by rank b (blank_at shape site) ≡ None
+blank-decision shape site rank b = rw (blank-takes_vote shape site rank b) refl
+
+pub blank-votes : (shape : Shape) (site : Site) (rank b : ℕ) → with_vote_of rank b (blank_at shape site) ≡ blank_at shape site
+blank-votes shape site rank b = rw (blank-takes_vote shape site rank b) refl

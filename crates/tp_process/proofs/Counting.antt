@@ -8,8 +8,8 @@ use Rattle.tp_base.specs.declared.names.Pair.{Pair}
 use Rattle.tp_base.specs.declared.names.Site.{Site}
 use Rattle.tp_base.specs.declared.names.Stamp.{Stamp}
 use Rattle.tp_process.proofs.Gathering.{Quiet, counted, counted_fast, counted_none, counted_slow, kept_only, refused}
-use Rattle.tp_process.proofs.Learning.{changed}
-use Rattle.tp_process.proofs.LowStamps.{acknowledged_low}
+use Rattle.tp_process.proofs.Learning.{changed, put_back}
+use Rattle.tp_process.proofs.LowStamps.{acknowledged_low, putting_low}
 use Rattle.tp_process.specs.Sheets.{ChangesSheet, sheet_at}
 use Rattle.tp_process.specs.State.{Agrees, IsLow, site_sheet}
 use Rattle.tp_quorum.specs.declared.choice.FastChoice.{FastChoice}
@@ -51,29 +51,12 @@ module _ {S : Type 0} (shape : Shape) (me : Site) (clock told : ℕ) (pairs : Li
       × Agrees shape me clock told pairs new (with_sheet id (putting shape me.rank.0 top.0 acked) s)
   counts_slow top e =
       let all = counted_slow shape me rank t id s within top (by_sheet (Some (Slow top)) e) in
-      (all.0, keeps_now (putting shape me.rank.0 top.0 acked) all.1 (record { known = low.known; acknowledged = low.acknowledged }))
-
-  -- the sheets are as they were
-  as_before : Agrees shape me clock told pairs new (with_sheet id (s.sheets id) s) → Agrees shape me clock told pairs new s
-  as_before k = record {
-    clock_is = k.clock_is;
-    told_is = k.told_is;
-    untold_is = k.untold_is;
-    attached = k.attached;
-    told_low = k.told_low;
-    room = k.room;
-    sheets_are = λ other. k.sheets_are other ∙ ap (λ (sheet : Sheet). site_sheet shape me sheet) (same other (same_id id other) refl);
-    low = h.low;
-  }
-    where
-      same : (other : CommandId) (b : Bool) → same_id id other ≡ b → cond b (s.sheets id) (s.sheets other) ≡ s.sheets other
-      same other true e = ap (λ (x : CommandId). s.sheets x) (same_id_is id other e)
-      same other false e = refl
+      (all.0, keeps_now (putting shape me.rank.0 top.0 acked) all.1 (putting_low shape me.rank.0 top.0 acked (all.2 low) low))
 
   quietly : (moved : Moved) (sheet : Sheet) → Quiet shape me id (s.sheets id) acked s moved sheet → with_acknowledgement rank t (site_sheet shape me (s.sheets id)) ≡ site_sheet shape me sheet
       → (moved.1 ≡ []) × Agrees shape me clock told pairs new moved.0
   quietly moved sheet kept_only e = (refl, keeps_now acked e low)
-  quietly moved sheet refused e = (refl, as_before (keeps_now (s.sheets id) e (h.low id)))
+  quietly moved sheet refused e = (refl, put_back shape me clock told pairs new id s (keeps_now (s.sheets id) e (h.low id)))
 
   pub counts_none : choice_by rank t (sheet_at shape me sheets id) ≡ None
       → ((counted shape me rank id t s).1 ≡ []) × Agrees shape me clock told pairs new (counted shape me rank id t s).0

@@ -43,10 +43,12 @@ module _ (shape : Shape) (me : Site) (id : CommandId) (sheet acked : Sheet) (s :
   slow_if : (w b f : Bool) (choice : FastChoice) (top : Stamp) → w ≡ true → choice_if (w && b) f choice ≡ Some (Slow top)
       → (row_if b f choice ≡ (with_sheet id (putting shape me.rank.0 top.0 acked) s, put_to_vote shape me me.rank.0 top.0 acked.command))
       × (sheet_if (w && b) f choice ≡ putting shape me.rank.0 top.0 acked)
+      × (choice ≡ Slow top)
   slow_if true true true (Slow t) top within e =
       let same : t ≡ top = cc in (
         ap (λ (n : Stamp). let moved : Moved = (with_sheet id (putting shape me.rank.0 n.0 acked) s, put_to_vote shape me me.rank.0 n.0 acked.command) in moved) same,
         ap (λ (n : Stamp). putting shape me.rank.0 n.0 acked) same,
+        ap (λ (n : Stamp). Slow n) same,
       )
   slow_if true true true (Fast t) top within e = absurd cc
   slow_if true true false choice top within e = absurd cc
@@ -70,6 +72,15 @@ unfolding fast_choice
 top_low shape table top low = cond_both {A = FastChoice} (is_fast shape (present table)) (Fast best) (Slow best) (λ choice. choice ≡ Fast top → top.0 < LIMIT)
     (λ t e. let same : best ≡ top = cc in subst (λ (n : Stamp). n.0 < LIMIT) same (greatest_low table low))
     (λ f e. absurd cc)
+  where
+    best : Stamp
+    best = record { 0 = greatest (present table) }
+
+slow_top_low : (shape : Shape) (table : List (Option ℕ)) (top : Stamp) → AreLow table → fast_choice shape (present table) ≡ Slow top → top.0 < LIMIT
+unfolding fast_choice
+slow_top_low shape table top low = cond_both {A = FastChoice} (is_fast shape (present table)) (Fast best) (Slow best) (λ choice. choice ≡ Slow top → top.0 < LIMIT)
+    (λ t e. absurd cc)
+    (λ f e. let same : best ≡ top = cc in subst (λ (n : Stamp). n.0 < LIMIT) same (greatest_low table low))
   where
     best : Stamp
     best = record { 0 = greatest (present table) }
@@ -98,9 +109,10 @@ module _ (shape : Shape) (me : Site) (rank t : ℕ) (id : CommandId) (s : Proces
   pub counted_slow : (top : Stamp) → choice_by rank t (site_sheet shape me sheet) ≡ Some (Slow top)
       → (counted shape me rank id t s ≡ (with_sheet id (putting shape me.rank.0 top.0 acked) s, put_to_vote shape me me.rank.0 top.0 acked.command))
       × (with_acknowledgement rank t (site_sheet shape me sheet) ≡ site_sheet shape me (putting shape me.rank.0 top.0 acked))
+      × (IsLow acked → top.0 < LIMIT)
   counted_slow top e =
       let all = slow_if shape me id sheet acked s (is_between rank shape.replicas) can (is_full shape acked) best top within e in
-      (all.0, ap (λ (kept : Sheet). site_sheet shape me kept) all.1)
+      (all.0, ap (λ (kept : Sheet). site_sheet shape me kept) all.1, λ low. slow_top_low shape acked.acknowledged top low.acknowledged all.2)
 
   pub counted_none : choice_by rank t (site_sheet shape me sheet) ≡ None
       → Quiet shape me id sheet acked s (counted shape me rank id t s) (with_acknowledgement rank t (site_sheet shape me sheet)).sheet

@@ -67,6 +67,24 @@ module _ {S : Type 0} (shape : Shape) (site : Site) (clock told : ℕ) (pairs : 
       once other true = refl
       once other false = refl
 
+  -- a sheet that is put back as it was
+  pub put_back : (id : CommandId) (s : ProcessState) → Agrees shape site clock told pairs sheets (with_sheet id (s.sheets id) s)
+      → Agrees shape site clock told pairs sheets s
+  put_back id s h = record {
+    clock_is = h.clock_is;
+    told_is = h.told_is;
+    untold_is = h.untold_is;
+    attached = h.attached;
+    told_low = h.told_low;
+    room = h.room;
+    sheets_are = λ other. h.sheets_are other ∙ ap (λ (kept : Sheet). site_sheet shape site kept) (same other (same_id id other) refl);
+    low = λ other. subst IsLow (same other (same_id id other) refl) (h.low other);
+  }
+    where
+      same : (other : CommandId) (b : Bool) → same_id id other ≡ b → cond b (s.sheets id) (s.sheets other) ≡ s.sheets other
+      same other true e = ap (λ (x : CommandId). s.sheets x) (same_id_is id other e)
+      same other false e = refl
+
 -- what is kept once a partition's stamp is known
 abbrev pub known_sheet : ℕ → ℕ → Sheet → Sheet
 known_sheet q t sheet = cond (is_some (stamp_of sheet q)) sheet (with_stamp q t sheet)

@@ -9,3 +9,5 @@ pub mod Proposing
 pub mod Counting
 pub mod Outcomes
 pub mod Unheeded
+pub mod Accepting
+pub mod Voting

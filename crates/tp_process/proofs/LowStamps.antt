@@ -8,7 +8,7 @@ use Rattle.tp_process.specs.State.{AreLow, IsLow}
 use Rattle.tp_quorum.specs.Choice.{greatest, present}
 use Rattle.tp_rules.specs.Addresses.{accessed}
 use Rattle.tp_rules.specs.Process.{LIMIT}
-use Rattle.tp_rules.specs.Sheet.{Sheet, acknowledged, blank, final_stamp, stamps_of, with_stamp}
+use Rattle.tp_rules.specs.Sheet.{Sheet, acknowledged, blank, final_stamp, kept, putting, stamps_of, with_accepted, with_stamp, with_vote}
 use Rattle.tp_rules.specs.Tables.{flat, kept_at, with_nth}
 use Rattle.tp_topology.specs.Shape.{Shape}
 
@@ -70,10 +70,23 @@ final_low shape sheet (Some c) n h e =
 
 pub blank_low : (shape : Shape) → IsLow (blank shape)
 unfolding blank
-blank_low shape = record { known = low_none shape.partitions; acknowledged = low_none shape.replicas }
+blank_low shape = record { known = low_none shape.partitions; acknowledged = low_none shape.replicas; put = omega arith }
+
+pub kept_low : (c : Command) (sheet : Sheet) → IsLow sheet → IsLow (kept c sheet)
+kept_low c sheet h = record { known = h.known; acknowledged = h.acknowledged; put = h.put }
 
 pub with_stamp_low : (q t : ℕ) (sheet : Sheet) → t < LIMIT → IsLow sheet → IsLow (with_stamp q t sheet)
-with_stamp_low q t sheet lt h = record { known = low_nth sheet.known q t lt h.known; acknowledged = h.acknowledged }
+with_stamp_low q t sheet lt h = record { known = low_nth sheet.known q t lt h.known; acknowledged = h.acknowledged; put = h.put }
 
 pub acknowledged_low : (rank t : ℕ) (sheet : Sheet) → t < LIMIT → IsLow sheet → IsLow (acknowledged rank t sheet)
-acknowledged_low rank t sheet lt h = record { known = h.known; acknowledged = low_nth sheet.acknowledged rank t lt h.acknowledged }
+acknowledged_low rank t sheet lt h =
+    record { known = h.known; acknowledged = low_nth sheet.acknowledged rank t lt h.acknowledged; put = h.put }
+
+pub putting_low : (shape : Shape) (b t : ℕ) (sheet : Sheet) → t < LIMIT → IsLow sheet → IsLow (putting shape b t sheet)
+putting_low shape b t sheet lt h = record { known = h.known; acknowledged = h.acknowledged; put = lt }
+
+pub with_accepted_low : (b t : ℕ) (sheet : Sheet) → IsLow sheet → IsLow (with_accepted b t sheet)
+with_accepted_low b t sheet h = record { known = h.known; acknowledged = h.acknowledged; put = h.put }
+
+pub with_vote_low : (rank : ℕ) (sheet : Sheet) → IsLow sheet → IsLow (with_vote rank sheet)
+with_vote_low rank sheet h = record { known = h.known; acknowledged = h.acknowledged; put = h.put }

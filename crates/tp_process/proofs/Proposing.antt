@@ -11,7 +11,7 @@ use Rattle.tp_base.specs.declared.names.Pair.{Pair}
 use Rattle.tp_base.specs.declared.names.Site.{Site}
 use Rattle.tp_ops.specs.declared.command.Command.{Command}
 use Rattle.tp_process.proofs.Learning.{changed}
-use Rattle.tp_process.proofs.LowStamps.{acknowledged_low, max_cases}
+use Rattle.tp_process.proofs.LowStamps.{acknowledged_low, kept_low, max_cases}
 use Rattle.tp_process.proofs.Unheeded.{both_same}
 use Rattle.tp_process.specs.Sheets.{ChangesSheet, sheet_at}
 use Rattle.tp_process.specs.State.{Agrees, IsLow}
@@ -122,15 +122,12 @@ module _ {S : Type 0} (shape : Shape) (site : Site) (clock told : ℕ) (pairs : 
       subst (λ (k : Command). ChangesSheet shape site sheets new k.id (keeping (kept k (sheet_at shape site sheets k.id).sheet) (sheet_at shape site sheets k.id))) same change in
       changed shape site clock told pairs sheets new c.id _ (kept c (s.sheets c.id)) s now
       (ap (λ (old : SiteSheet). keeping (kept c old.sheet) old) (h.sheets_are c.id)) (kept_low c (s.sheets c.id) (h.low c.id)) h
-    where
-      kept_low : (k : Command) (sheet : Sheet) → IsLow sheet → IsLow (kept k sheet)
-      kept_low k sheet low = record { known = low.known; acknowledged = low.acknowledged }
 
   abbrev pub with_own_proposal : ℕ → Command → Sheet → Sheet
   with_own_proposal t k sheet = with_proposal t Proposal (kept k sheet)
 
   proposal_low : (t : ℕ) (sheet : Sheet) → IsLow sheet → IsLow (with_own_proposal t c sheet)
-  proposal_low t sheet low = record { known = low.known; acknowledged = low.acknowledged }
+  proposal_low t sheet low = record { known = low.known; acknowledged = low.acknowledged; put = low.put }
 
   pub proposes_now : (new : IndexMap CommandId SiteSheet S) (copy : Command) (t : ℕ) → copy ≡ c
       → ChangesSheet shape site sheets new copy.id (keeping (with_own_proposal t copy (sheet_at shape site sheets copy.id).sheet) (sheet_at shape site sheets copy.id))

@@ -12,7 +12,7 @@ use Rattle.tp_process.specs.declared.process.Process.{Process}
 use Rattle.tp_rules.specs.Acts.{Act, Identity, ProcessAt}
 use Rattle.tp_rules.specs.Addresses.{message}
 use Rattle.tp_rules.specs.Process.{LIMIT, ProcessState, state_after, untold}
-use Rattle.tp_rules.specs.Sheet.{Sheet, is_fresh, ring_setting}
+use Rattle.tp_rules.specs.Sheet.{Sheet, can_accept, is_fresh, ring_setting}
 use Rattle.tp_sheet.specs.SiteSheet.{SiteSheet}
 use Rattle.tp_topology.specs.Shape.{Shape}
 use Rattle.tp_wire.specs.declared.message.Body.TheVariants.{MCommitted}
@@ -30,6 +30,7 @@ AreLow (Some t ∷ table) = (t < LIMIT) × AreLow table
 pub record IsLow (sheet : Sheet) : Type 0 where
   pub known : AreLow sheet.known
   pub acknowledged : AreLow sheet.acknowledged
+  pub put : sheet.putting_stamp < LIMIT
 
 abbrev pub site_sheet : Shape → Site → Sheet → SiteSheet
 site_sheet shape site sheet = record { shape = shape; site = site; sheet = sheet }
@@ -63,6 +64,10 @@ takes_proposal p c = is_fresh (kept_of p c.id).site.partition.0 (kept_of p c.id)
 
 abbrev pub takes_submission : Process → Command → Bool
 takes_submission p c = (c.home.0 == p.place.site.rank.0) && takes_proposal p c
+
+-- whether the process accepts at a ballot, by the sheet
+abbrev pub takes_ballot : Process → Command → ℕ → Bool
+takes_ballot p c b = can_accept (kept_of p c.id).site.partition.0 b (kept_of p c.id).sheet && nat_lt b LIMIT
 
 -- the final stamp, told to the site's executor
 abbrev pub committed : Site → Option Command → ℕ → List Message

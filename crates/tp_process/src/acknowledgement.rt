@@ -52,7 +52,7 @@ impl Process {
     }
 
     /// Tells the partition's stamp to all other processes of the command, and learns it here.
-    fn decide(&mut self, id: CommandId, stamp: Stamp) -> Result<Outputs, NoMemory>
+    pub(crate) fn decide(&mut self, id: CommandId, stamp: Stamp) -> Result<Outputs, NoMemory>
         ensures identity { identity self.new ≡ identity self.old }
         ensures outputs { IfOk result (λ outputs. (s : ProcessState) → (sheet : Sheet) → IsState self.old (with_sheet id sheet s) → stamp.0 < LIMIT → outputs ≡ (decided self.old.place.topology self.old.place.site id stamp.0 sheet s).1) }
         ensures state { OnOk result ((s : ProcessState) → (sheet : Sheet) → IsState self.old (with_sheet id sheet s) → stamp.0 < LIMIT → IsState self.new (decided self.old.place.topology self.old.place.site id stamp.0 sheet s).0) }

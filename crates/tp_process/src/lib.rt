@@ -6,6 +6,7 @@ mod acknowledgement;
 mod addresses;
 mod announcement;
 mod commit;
+mod consensus;
 mod place;
 mod process;
 mod sheets;

@@ -119,6 +119,15 @@ impl Process {
             Body::MPropose { command, floor } => { self.on_propose(message.from, command, *floor) }
             Body::MPayload { command } => self.on_payload(command),
             Body::MProposeAck { id, stamp } => self.on_propose_ack(message.from, *id, *stamp),
+            Body::MBump { id: _, stamp } => Ok(self.on_bump(*stamp)),
+            Body::MConsensus {
+                command,
+                stamp,
+                ballot,
+            } => self.on_consensus(message.from, command, *stamp, *ballot),
+            Body::MConsensusAck { id, ballot } => {
+                self.on_consensus_ack(message.from, *id, *ballot)
+            }
             Body::MCommit {
                 command,
                 partition,

@@ -1,8 +1,8 @@
 ghost use Rattle.std.specs.Prelude.{◌≡◌, ◌≤◌, OnOk, IfOk};
 ghost use Rattle.std.specs.Option.{option_copied, option_map};
 ghost use Rattle.tp_process.specs.Sheets.{sheet_at, OpensSheet, ChangesSheet};
-ghost use Rattle.tp_rules.specs.Sheet.{command_or as kept_or, is_fresh as is_fresh_in, kept, with_proposal};
-ghost use Rattle.tp_sheet.specs.SiteSheet.{with_sheet, with_own, choice_by, with_acknowledgement, with_known, final_of, final_by};
+ghost use Rattle.tp_rules.specs.Sheet.{can_accept as can_accept_in, command_or as kept_or, is_fresh as is_fresh_in, kept, with_accepted, with_proposal};
+ghost use Rattle.tp_sheet.specs.SiteSheet.{with_sheet, with_own, choice_by, with_acknowledgement, decision_by, with_vote_of, with_known, final_of, final_by};
 
 use crate::place::Place;
 use indexmap::IndexMap;
@@ -130,6 +130,52 @@ pub(crate) fn acknowledge(
 {
     match sheets.get_mut(&id) {
         Some(sheet) => sheet.acknowledge(rank, stamp),
+        None => None,
+    }
+}
+
+/// Whether a stamp of a command can be accepted at a ballot.
+pub(crate) fn can_accept(sheets: &Sheets, place: &Place, id: CommandId, ballot: u64) -> bool
+    ensures { let kept = sheet_at place.now.topology place.now.site sheets.now id in result ≡ can_accept_in kept.site.partition.0 ballot kept.sheet }
+{
+    match sheets.get(&id) {
+        Some(sheet) => sheet.can_accept(ballot),
+        None => true,
+    }
+}
+
+/// Keeps a command in its sheet, with a stamp accepted at a ballot.
+pub(crate) fn accept(
+    sheets: &mut Sheets,
+    place: &Place,
+    command: Command,
+    stamp: Stamp,
+    ballot: u64,
+) -> Result<(), NoMemory>
+    ensures { OnOk result (let old = sheet_at place.now.topology place.now.site sheets.old command.id in ChangesSheet place.now.topology place.now.site sheets.old sheets.new command.id (with_sheet (with_accepted ballot stamp.0 (kept command old.sheet)) old)) }
+{
+    let id = command.id;
+    open(sheets, place, id)?;
+    if let Some(sheet) = sheets.get_mut(&id) {
+        sheet.keep(command);
+        sheet.accept(stamp, ballot);
+    }
+    Ok(())
+}
+
+/// Takes a rank's vote at a ballot, and gives the stamp that is decided with it.
+pub(crate) fn vote(
+    sheets: &mut Sheets,
+    place: &Place,
+    id: CommandId,
+    rank: Rank,
+    ballot: u64,
+) -> Option<Stamp>
+    ensures decision { option_map (λ t. t.0) result ≡ decision_by rank.0 ballot (sheet_at place.now.topology place.now.site sheets.old id) }
+    ensures changed { ChangesSheet place.now.topology place.now.site sheets.old sheets.new id (with_vote_of rank.0 ballot (sheet_at place.now.topology place.now.site sheets.old id)) }
+{
+    match sheets.get_mut(&id) {
+        Some(sheet) => sheet.vote(rank, ballot),
         None => None,
     }
 }

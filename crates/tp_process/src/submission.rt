@@ -1,7 +1,7 @@
 ghost use Rattle.std.specs.Prelude.{◌≡◌, ◌≤◌, ◌<◌, ◌++◌, ◌∷◌, [], true, cond, IfOk, OnOk};
 ghost use Rattle.tp_process.specs.State.{IsState, identity, kept_of, takes_proposal, takes_submission};
 ghost use Rattle.tp_rules.specs.Addresses.{message};
-ghost use Rattle.tp_rules.specs.Process.{LIMIT, ProcessState, bumps, on_payload, on_propose, on_submit, proposals, with_room};
+ghost use Rattle.tp_rules.specs.Process.{LIMIT, ProcessState, bumps, on_bump, on_payload, on_propose, on_submit, proposals, with_room};
 ghost use Rattle.tp_rules.specs.Sheet.{command_or as kept_or, ring_setting};
 ghost use Rattle.tp_topology.specs.Shape.{in_ring};
 
@@ -60,6 +60,16 @@ impl Process {
     {
         keep(&mut self.sheets, &self.place, command.copy()?)?;
         Ok(self.nothing())
+    }
+
+    /// The process of this rank in another partition tells its proposal.
+    pub(crate) fn on_bump(&mut self, stamp: Stamp) -> Outputs
+        ensures identity { identity self.new ≡ identity self.old }
+        ensures outputs { result ≡ [] }
+        ensures state { (s : ProcessState) → IsState self.old s → stamp.0 < LIMIT → IsState self.new (on_bump stamp.0 s).0 }
+    {
+        self.bump(stamp);
+        self.nothing()
     }
 
     fn takes_submission(&self, command: &Command) -> bool

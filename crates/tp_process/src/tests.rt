@@ -30,7 +30,7 @@ fn bytes(alloc: Global, byte: u8) -> Result<Bytes, NoMemory> {
 fn command(alloc: Global) -> Result<Command, NoMemory> {
     let mut ops = Sequence::new(alloc);
     ops.add(Op::Get {
-        key: bytes(alloc, 0x61)?,
+        key: bytes(alloc, 0x62)?,
     })?;
     Ok(Command {
         id: ID,
@@ -62,12 +62,60 @@ fn proposal(alloc: Global) -> Result<Message, NoMemory> {
     Ok(message(ActorName::Process(site(1)), 2, body))
 }
 
+/// A proposal of at least 1 is asked of rank 4.
+fn floored(alloc: Global) -> Result<Message, NoMemory> {
+    let body = Body::MPropose {
+        command: command(alloc)?,
+        floor: Stamp(1),
+    };
+    Ok(message(ActorName::Process(site(1)), 4, body))
+}
+
+/// Another command's proposal in the second partition.
+fn bump() -> Message {
+    let from = Site {
+        partition: PartitionId(2),
+        rank: Rank(4),
+    };
+    let body = Body::MBump {
+        id: CommandId {
+            session: SessionId(9),
+            number: 1,
+        },
+        stamp: Stamp(1),
+    };
+    message(ActorName::Process(from), 4, body)
+}
+
 fn acknowledgement() -> Message {
     let body = Body::MProposeAck {
         id: ID,
         stamp: Stamp(1),
     };
     message(ActorName::Process(site(2)), 1, body)
+}
+
+fn proposal_of(rank: u8, stamp: u64) -> Message {
+    let body = Body::MProposeAck {
+        id: ID,
+        stamp: Stamp(stamp),
+    };
+    message(ActorName::Process(site(rank)), 1, body)
+}
+
+/// Rank 1 puts 2 to the vote at ballot 1.
+fn put(alloc: Global, rank: u8) -> Result<Message, NoMemory> {
+    let body = Body::MConsensus {
+        command: command(alloc)?,
+        stamp: Stamp(2),
+        ballot: 1,
+    };
+    Ok(message(ActorName::Process(site(1)), rank, body))
+}
+
+fn vote(rank: u8, ballot: u64) -> Message {
+    let body = Body::MConsensusAck { id: ID, ballot };
+    message(ActorName::Process(site(rank)), 1, body)
 }
 
 /// The process of rank 1 of three, for one partition.
@@ -115,6 +163,89 @@ fn proposed_once(rt: HostRuntime) -> Result<(), Fail> {
     assert_eq!(rt; process.clock(), 5, "at least the floor");
     let repeated = process.deliver(&proposal(alloc)?)?;
     assert_eq!(rt; repeated.len(), 0);
+    Ok(())
+}
+
+/// The process of rank 4 of five, in the first of two partitions.
+fn fourth(alloc: Global) -> Result<Process, Fail> {
+    let topology = Topology::new(2, 5, 2)?;
+    let site = Site {
+        partition: PartitionId(1),
+        rank: Rank(4),
+    };
+    Ok(Process::new(alloc, &topology, site))
+}
+
+/// The process of rank 1 of five, in the first of two partitions, with the proposals of ranks 2 and 3.
+fn asked(alloc: Global, second: u64, third: u64) -> Result<Process, Fail> {
+    let topology = Topology::new(2, 5, 2)?;
+    let site = Site {
+        partition: PartitionId(1),
+        rank: Rank(1),
+    };
+    let mut process = Process::new(alloc, &topology, site);
+    process.deliver(&submission(alloc)?)?;
+    process.deliver(&proposal_of(2, second))?;
+    process.deliver(&proposal_of(3, third))?;
+    Ok(process)
+}
+
+#[test]
+fn decided_fast_by_two_of_five(rt: HostRuntime) -> Result<(), Fail> {
+    let alloc = rt.alloc();
+    let mut process = asked(alloc, 1, 2)?;
+    let told = process.deliver(&proposal_of(4, 2))?;
+    assert_eq!(rt; told.len(), 5, "four other ranks and the executor");
+    assert_eq!(rt; process.clock(), 2);
+    assert_eq!(rt; process.stamp(ID), Some(Stamp(2)));
+    Ok(())
+}
+
+#[test]
+fn decided_by_three_votes(rt: HostRuntime) -> Result<(), Fail> {
+    let alloc = rt.alloc();
+    let mut process = asked(alloc, 1, 1)?;
+    let asked = process.deliver(&proposal_of(4, 2))?;
+    assert_eq!(rt; asked.len(), 5, "all ranks");
+    assert_eq!(rt; process.clock(), 1);
+    let agreed = process.deliver(&put(alloc, 1)?)?;
+    assert_eq!(rt; agreed.len(), 1);
+    assert_eq!(rt; process.clock(), 2);
+    for (rank, ballot) in [(1, 1), (5, 1), (5, 1), (3, 2)] {
+        let waiting = process.deliver(&vote(rank, ballot))?;
+        assert_eq!(rt; waiting.len(), 0);
+    }
+    assert_eq!(rt; process.stamp(ID), None);
+    let told = process.deliver(&vote(3, 1))?;
+    assert_eq!(rt; told.len(), 5, "four other ranks and the executor");
+    assert_eq!(rt; process.stamp(ID), Some(Stamp(2)));
+    let late = process.deliver(&put(alloc, 1)?)?;
+    assert_eq!(rt; late.len(), 0);
+    Ok(())
+}
+
+#[test]
+fn voted_unasked(rt: HostRuntime) -> Result<(), Fail> {
+    let alloc = rt.alloc();
+    let mut process = fourth(alloc)?;
+    let agreed = process.deliver(&put(alloc, 4)?)?;
+    assert_eq!(rt; agreed.len(), 1);
+    assert_eq!(rt; process.clock(), 2);
+    let refused = process.deliver(&floored(alloc)?)?;
+    assert_eq!(rt; refused.len(), 0, "its ballot is 1");
+    Ok(())
+}
+
+#[test]
+fn proposed_above_a_bump(rt: HostRuntime) -> Result<(), Fail> {
+    let alloc = rt.alloc();
+    let mut process = fourth(alloc)?;
+    let told = process.deliver(&bump())?;
+    assert_eq!(rt; told.len(), 0);
+    assert_eq!(rt; process.clock(), 1);
+    let answered = process.deliver(&floored(alloc)?)?;
+    assert_eq!(rt; answered.len(), 1);
+    assert_eq!(rt; process.clock(), 2);
     Ok(())
 }
 

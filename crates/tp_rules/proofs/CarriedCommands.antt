@@ -21,7 +21,7 @@ use Rattle.tp_rules.specs.Addresses.{rank_of, partition_of, is_name_of, is_body_
 use Rattle.tp_rules.specs.Executor as executor
 use Rattle.tp_rules.specs.Process as process
 use Rattle.tp_rules.specs.Session as session
-use Rattle.tp_rules.specs.Sheet.{Sheet, Setting, blank, stamp_of, is_fresh, kept, with_proposal, can_acknowledge, acknowledged, acknowledged_own, is_full, putting, with_stamp, final_stamp}
+use Rattle.tp_rules.specs.Sheet.{Sheet, Setting, blank, stamp_of, is_fresh, kept, with_proposal, can_acknowledge, acknowledged, acknowledged_own, is_full, putting, can_accept, with_accepted, can_vote, with_vote, has_consensus, with_stamp, final_stamp}
 use Rattle.tp_rules.specs.Tables.{nth}
 use Rattle.tp_rules.specs.declared.event.Inner.TheVariants.{Submit, Recover, Announce, Declare, Execute, Crash}
 use Rattle.tp_topology.specs.Shape.{Shape}
@@ -30,7 +30,7 @@ use Rattle.tp_wire.specs.declared.message.Body.TheVariants.{MSubmit, MPropose, M
 use Rattle.tp_wire.specs.declared.message.Message.{Message}
 use Rattle.tp_rules.proofs.LaterKinds.{executor_silent, session_silent}
 use Rattle.tp_rules.proofs.UpTo.{nth_in}
-use Rattle.tp_rules.proofs.SendsOfProcess.{EachSent, each_to, on_submit_sends, on_propose_sends, on_payload_sends, on_propose_ack_sends, on_commit_sends, on_announce_sends, with_room_sends}
+use Rattle.tp_rules.proofs.SendsOfProcess.{EachSent, each_to, on_submit_sends, on_propose_sends, on_payload_sends, on_propose_ack_sends, on_consensus_sends, on_consensus_ack_sends, on_commit_sends, on_announce_sends, with_room_sends}
 
 -- the command that a body carries passes
 abbrev pub Carries : (Command → Type 0) → Body → Type 0
@@ -108,6 +108,12 @@ module _ (P : Command → Type 0) where
   chosen_keeps s me id (Fast t) sheet state h k = learned_keeps s.shape me id me.partition.0 t.0 sheet state h k
   chosen_keeps s me id (Slow t) sheet state h k = put_sheet state.sheets id (putting s.shape me.rank.0 t.0 sheet) k h
 
+  voted_keeps : (s : Setting) (me : Site) (id : CommandId) (sheet : Sheet) (state : process.ProcessState) →
+      KeepsOnly P state → Keeps P id sheet.command → Kept (process.voted s me id sheet state)
+  voted_keeps s me id sheet state h k =
+      cond_both (has_consensus s.shape sheet) (process.decided s.shape me id sheet.putting_stamp sheet state) (process.with_sheet id sheet state, []) Kept
+      (λ e. learned_keeps s.shape me id me.partition.0 sheet.putting_stamp sheet state h k) (λ e. put_sheet state.sheets id sheet k h)
+
   row_keeps : (s : Setting) (me : Site) (from : ActorName) (body : Body) (state : process.ProcessState) →
       KeepsOnly P state → Carries P body → Kept (process.on_body s me from body state)
   row_keeps s me from (MSubmit c) state h p =
@@ -140,8 +146,15 @@ module _ (P : Command → Type 0) where
       cond_both (is_accessed s.shape.partitions c q.0) (process.learned s.shape me c.id q.0 t.0 sheet state) (state, []) Kept
       (λ e. learned_keeps s.shape me c.id q.0 t.0 sheet state h (keeps_more c.id c (state.sheets c.id).command p refl (h c.id))) (λ e. h)
   row_keeps s me from (MBump id t) state h p = h
-  row_keeps s me from (MConsensus c t b) state h p = h
-  row_keeps s me from (MConsensusAck id b) state h p = h
+  row_keeps s me from (MConsensus c t b) state h p =
+      let sheet = state.sheets c.id in
+      cond_both (can_accept me.partition.0 b sheet && nat_lt b process.LIMIT) (process.accepted me from c t.0 b sheet state) (state, []) Kept
+      (λ e. put_sheet state.sheets c.id (with_accepted b t.0 (kept c sheet)) (keeps_more c.id c sheet.command p refl (h c.id)) h)
+      (λ e. h)
+  row_keeps s me from (MConsensusAck id b) state h p =
+      let sheet = with_vote (rank_of from) (state.sheets id) in
+      cond_both (can_vote me.partition.0 b (state.sheets id)) (process.voted s me id sheet state) (state, []) Kept
+      (λ e. voted_keeps s me id sheet state h (h id)) (λ e. h)
   row_keeps s me from (MRec c b) state h p = h
   row_keeps s me from (MRecAck id t made a b) state h p = h
   row_keeps s me from (MPromises lo hi pairs) state h p = h
@@ -192,8 +205,10 @@ module _ (P : Command → Type 0) where
       on_commit_sends Passes me s c q.0 t.0 state
       (λ d t e. kept_passes c.id (kept c sheet).command d (keeps_more c.id c sheet.command p refl (h c.id)) e)
   row_sends s me from (MBump id t) state h p = tt
-  row_sends s me from (MConsensus c t b) state h p = tt
-  row_sends s me from (MConsensusAck id b) state h p = tt
+  row_sends s me from (MConsensus c t b) state h p = on_consensus_sends Passes me from c t.0 b state tt
+  row_sends s me from (MConsensusAck id b) state h p =
+      let of_kept : (c : Command) → (state.sheets id).command ≡ Some c → P c = (λ c e. kept_passes id (state.sheets id).command c (h id) e) in
+      on_consensus_ack_sends Passes me s from id b state (λ c to t e. of_kept c e) (λ c t e. of_kept c e)
   row_sends s me from (MRec c b) state h p = tt
   row_sends s me from (MRecAck id t made a b) state h p = tt
   row_sends s me from (MPromises lo hi pairs) state h p = tt

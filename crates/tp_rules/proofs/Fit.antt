@@ -1,6 +1,6 @@
 -- Messages in the ranges of the wire format, to an actor of the script, whose commands are the script's; and what of a script's
 -- shape they need. Each message that a run sends is such a one.
-use Rattle.std.proofs.Common.{◌≡◌, ℕ, ◌≤◌, true, arith}
+use Rattle.std.proofs.Common.{◌≡◌, ℕ, true, arith}
 use Rattle.std.proofs.lemmas.Bool.{and_parts, leb-true}
 use Rattle.std.specs.Prelude.{nat_le}
 use Rattle.tp_base.proofs.Each.{each_in, each_weaker}

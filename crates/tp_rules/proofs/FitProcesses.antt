@@ -1,6 +1,6 @@
 -- What a process of an accepted script keeps, where it took messages that are fit: stamps in range, promises in order, each of them
 -- for another command of the script. The steps that rules are made of keep it so.
-use Rattle.std.proofs.Common.{◌≡◌, ℕ, ◌<◌, ◌-◌, true, false, cond, List, max, map, Option, Some, None, sym, ap, subst, ◌∙◌, arith}
+use Rattle.std.proofs.Common.{◌≡◌, ℕ, ◌<◌, ◌≤◌, ◌-◌, true, false, cond, List, max, map, Option, Some, None, sym, ap, subst, ◌∙◌, arith}
 use Rattle.std.proofs.lemmas.Bool.{both_ways, cond-true, cond_both}
 use Rattle.std.specs.Prelude.{is_none, unwrap_or}
 use Rattle.tp_base.proofs.Each.{each_in, each_of}
@@ -18,7 +18,7 @@ use Rattle.tp_rules.proofs.FitPromises.{Descends, descends_higher}
 use Rattle.tp_rules.proofs.FitStamps.{with_fit}
 use Rattle.tp_rules.proofs.Selections.{IfAny, each_replicate}
 use Rattle.tp_rules.specs.Process.{LIMIT, ProcessState, bumped, proposing, start, with_sheet}
-use Rattle.tp_rules.specs.Sheet.{Sheet, acknowledged, blank, command_or, kept, putting, with_proposal, with_stamp}
+use Rattle.tp_rules.specs.Sheet.{Sheet, acknowledged, blank, command_or, kept, putting, with_accepted, with_proposal, with_stamp, with_vote}
 use Rattle.tp_script.specs.declared.script.Script.{Script}
 use Rattle.tp_wire.specs.Ranges.{IsNumber}
 
@@ -27,6 +27,7 @@ pub record IsSheetSound (script : Script) (p : ℕ) (sheet : Sheet) : Type 0 whe
   pub command : IfAny (IsCommandHere script p) sheet.command
   pub known : Each (IfAny IsNumber) sheet.known
   pub acknowledged : Each (IfAny IsNumber) sheet.acknowledged
+  pub putting : 1 ≤ sheet.putting_ballot → IsNumber sheet.putting_stamp
 
 abbrev pub ids_of : Script → List CommandId
 ids_of script = map (λ c. c.id) script.commands
@@ -49,6 +50,7 @@ module _ (script : Script) (p : ℕ) where
     command = tt;
     known = each_replicate (IfAny IsNumber) script.topology.partitions None tt;
     acknowledged = each_replicate (IfAny IsNumber) script.topology.replicas None tt;
+    putting = λ some. absurd (omega (arith, some));
   }
 
   pub start_sound : IsProcessSound script p (start script.topology)
@@ -74,16 +76,19 @@ module _ (script : Script) (p : ℕ) where
     command = command_or_here c sheet here sound;
     known = sound.known;
     acknowledged = sound.acknowledged;
+    putting = sound.putting;
   }
 
   pub with_proposal_sound : (t : ℕ) (made : Made) (sheet : Sheet) → IsSheetSound script p sheet → IsSheetSound script p (with_proposal t made sheet)
-  with_proposal_sound t made sheet sound = record { command = sound.command; known = sound.known; acknowledged = sound.acknowledged }
+  with_proposal_sound t made sheet sound =
+      record { command = sound.command; known = sound.known; acknowledged = sound.acknowledged; putting = sound.putting }
 
   pub acknowledged_sound : (rank t : ℕ) (sheet : Sheet) → IsNumber t → IsSheetSound script p sheet → IsSheetSound script p (acknowledged rank t sheet)
   acknowledged_sound rank t sheet number sound = record {
     command = sound.command;
     known = sound.known;
     acknowledged = with_fit (IfAny IsNumber) sheet.acknowledged rank (Some t) sound.acknowledged number;
+    putting = sound.putting;
   }
 
   pub with_stamp_sound : (q t : ℕ) (sheet : Sheet) → IsNumber t → IsSheetSound script p sheet → IsSheetSound script p (with_stamp q t sheet)
@@ -91,10 +96,20 @@ module _ (script : Script) (p : ℕ) where
     command = sound.command;
     known = with_fit (IfAny IsNumber) sheet.known q (Some t) sound.known number;
     acknowledged = sound.acknowledged;
+    putting = sound.putting;
   }
 
-  pub putting_sound : (b t : ℕ) (sheet : Sheet) → IsSheetSound script p sheet → IsSheetSound script p (putting script.topology b t sheet)
-  putting_sound b t sheet sound = record { command = sound.command; known = sound.known; acknowledged = sound.acknowledged }
+  pub putting_sound : (b t : ℕ) (sheet : Sheet) → IsNumber t → IsSheetSound script p sheet → IsSheetSound script p (putting script.topology b t sheet)
+  putting_sound b t sheet number sound =
+      record { command = sound.command; known = sound.known; acknowledged = sound.acknowledged; putting = λ some. number }
+
+  pub with_accepted_sound : (b t : ℕ) (sheet : Sheet) → IsSheetSound script p sheet → IsSheetSound script p (with_accepted b t sheet)
+  with_accepted_sound b t sheet sound =
+      record { command = sound.command; known = sound.known; acknowledged = sound.acknowledged; putting = sound.putting }
+
+  pub with_vote_sound : (rank : ℕ) (sheet : Sheet) → IsSheetSound script p sheet → IsSheetSound script p (with_vote rank sheet)
+  with_vote_sound rank sheet sound =
+      record { command = sound.command; known = sound.known; acknowledged = sound.acknowledged; putting = sound.putting }
 
   -- states
 

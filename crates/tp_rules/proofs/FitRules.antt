@@ -1,5 +1,5 @@
 -- A process of an accepted script that took messages that are fit sends messages that are fit: each rule of it.
-use Rattle.std.proofs.Common.{◌≡◌, ℕ, ◌<◌, Bool, true, false, List, [], ◌∷◌, length, Option, Some, None, refl, arith}
+use Rattle.std.proofs.Common.{◌≡◌, ℕ, ◌<◌, ◌≤◌, Bool, true, false, List, [], ◌∷◌, length, Option, Some, None, refl, arith}
 use Rattle.std.proofs.lemmas.Bool.{and_parts, cond_both, eqb-true, ltb-true}
 use Rattle.std.specs.Prelude.{is_none, is_some, nat_lt, ◌==◌, ◌&&◌}
 use Rattle.tp_base.proofs.Each.{each_append}
@@ -18,21 +18,21 @@ use Rattle.tp_quorum.specs.Choice.{fast_choice, present}
 use Rattle.tp_quorum.specs.declared.choice.FastChoice.{FastChoice}
 use Rattle.tp_quorum.specs.declared.choice.FastChoice.TheVariants.{Fast, Slow}
 use Rattle.tp_rules.proofs.Fit.{IsBodyOf, IsCommandHere, IsFit, IsFitAct, IsProcessOf, known_process}
-use Rattle.tp_rules.proofs.FitProcesses.{IsProcessSound, IsSheetSound, acknowledged_sound, bumped_sound, command_or_here, ids_of, kept_sound, proposing_sound, putting_sound, start_sound, with_proposal_sound, with_sheet_sound, with_stamp_sound}
+use Rattle.tp_rules.proofs.FitProcesses.{IsProcessSound, IsSheetSound, acknowledged_sound, bumped_sound, command_or_here, ids_of, kept_sound, proposing_sound, putting_sound, start_sound, with_accepted_sound, with_proposal_sound, with_sheet_sound, with_stamp_sound, with_vote_sound}
 use Rattle.tp_rules.proofs.FitSends.{announced_fit, bumps_fit, commits_fit, is_command, own_ballot, own_partition, own_site, proposals_fit, setting_of, votes_fit}
 use Rattle.tp_rules.proofs.FitStamps.{IsChoiceInRange, choice_number, final_number, present_fit}
 use Rattle.tp_rules.proofs.Selections.{IfAny}
 use Rattle.tp_rules.specs.Acts.{Act, Took, Did}
 use Rattle.tp_rules.specs.Addresses.{is_between, is_body_at, is_name_of, is_site_of, rank_of}
-use Rattle.tp_rules.specs.Process.{LIMIT, Moved, ProcessState, announced, bumps, chosen, commits, decided, finished, gathered, learned, next_stamp, on_announce, on_body, on_commit, on_payload, on_propose, on_propose_ack, on_submit, proposals, proposed, react, state_after, submitted, with_room, with_sheet}
-use Rattle.tp_rules.specs.Sheet.{Setting, Sheet, acknowledged, acknowledged_own, can_acknowledge, command_or, final_stamp, is_fresh, is_full, kept, putting, stamp_of, with_proposal, with_stamp}
+use Rattle.tp_rules.specs.Process.{LIMIT, Moved, ProcessState, accepted as acceptance, announced, bumps, chosen, commits, decided, finished, gathered, learned, next_stamp, on_announce, on_body, on_commit, on_consensus, on_consensus_ack, on_payload, on_propose, on_propose_ack, on_submit, proposals, proposed, react, state_after, submitted, voted, with_room, with_sheet}
+use Rattle.tp_rules.specs.Sheet.{Setting, Sheet, acknowledged, acknowledged_own, can_accept, can_acknowledge, can_vote, command_or, final_stamp, has_consensus, is_fresh, is_full, kept, putting, stamp_of, with_accepted, with_proposal, with_stamp, with_vote}
 use Rattle.tp_rules.specs.declared.event.Inner.TheVariants.{Announce}
 use Rattle.tp_script.specs.Accepted.{IsAccepted}
 use Rattle.tp_script.specs.declared.script.Script.{Script}
 use Rattle.tp_topology.specs.Shape.{fast_size}
 use Rattle.tp_wire.specs.Ranges.{IsBody, IsNumber}
 use Rattle.tp_wire.specs.declared.message.Body.{Body}
-use Rattle.tp_wire.specs.declared.message.Body.TheVariants.{MSubmit, MPropose, MPayload, MProposeAck, MCommit}
+use Rattle.tp_wire.specs.declared.message.Body.TheVariants.{MSubmit, MPropose, MPayload, MProposeAck, MBump, MConsensus, MConsensusAck, MCommit}
 
 module _ (script : Script) (accepted : IsAccepted script) (in_quorum : Command → ℕ → Bool) (me : Site)
     (here : is_site_of script.topology me ≡ true) where
@@ -106,7 +106,7 @@ module _ (script : Script) (accepted : IsAccepted script) (in_quorum : Command �
   chosen_fit id (Fast t) sheet state sound new same number room = decided_fit id t.0 sheet state sound new same number room
   chosen_fit id (Slow t) sheet state sound new same number room = (
     with_sheet_sound script me.partition.0 id (putting script.topology me.rank.0 t.0 sheet) state sound
-        (putting_sound script me.partition.0 me.rank.0 t.0 sheet new) same,
+        (putting_sound script me.partition.0 me.rank.0 t.0 sheet number new) same,
     votes_fit script accepted in_quorum me here me.rank.0 t.0 sheet.command new.command (own_ballot script accepted in_quorum me here) number,
   )
 
@@ -141,6 +141,48 @@ module _ (script : Script) (accepted : IsAccepted script) (in_quorum : Command �
       cond_both (is_accessed script.topology.partitions c q) (learned script.topology me c.id q t sheet state) (state, []) Goes
       (λ accesses. learned_fit c.id q t sheet state sound (kept_sound script me.partition.0 c (state.sheets c.id) ours (sound.sheets c.id)) refl number)
       (λ elsewhere room. (sound, tt))
+
+  consensus_fit : (from : ActorName) (c : Command) (t b : ℕ) (state : ProcessState) → IsSound state → IsProcessOf script from → IsHere c
+      → IsNumber t → IsNumber b → Goes (on_consensus me from c t b state)
+  consensus_fit from c t b state sound is_process ours number ballot =
+      let old : Sheet = state.sheets c.id in
+      let sheet : Sheet = with_accepted b t (kept c old) in
+      let new : IsSheet sheet = with_accepted_sound script me.partition.0 b t (kept c old)
+      (kept_sound script me.partition.0 c old ours (sound.sheets c.id)) in
+      let range : IsCommand c = is_command script accepted in_quorum me here c ours in
+      cond_both (can_accept me.partition.0 b old && nat_lt b LIMIT) (acceptance me from c t b old state) (state, []) Goes
+      (λ can room. (
+        bumped_sound script me.partition.0 t (with_sheet c.id sheet state)
+            (with_sheet_sound script me.partition.0 c.id sheet state sound new refl) room,
+        (record { known = is_process.1; range = (own_site script accepted in_quorum me here, is_process.0, range.0, ballot); ours = tt }, tt),
+      ))
+      (λ cannot room. (sound, tt))
+
+  -- where a vote counts, a stamp is put
+  is_put : (b : ℕ) (sheet : Sheet) → can_vote me.partition.0 b sheet ≡ true → 1 ≤ sheet.putting_ballot
+  is_put b sheet can =
+      let unknown : Bool = is_none (stamp_of sheet me.partition.0) in
+      let both = and_parts (unknown && nat_lt 0 b) (sheet.putting_ballot == b) can in
+      let some : 0 < b = ltb-true 0 b (and_parts unknown (nat_lt 0 b) both.0).1 in
+      let same : sheet.putting_ballot ≡ b = eqb-true sheet.putting_ballot b both.1 in
+      omega (arith, some, same)
+
+  voted_fit : (id : CommandId) (sheet : Sheet) (state : ProcessState) → IsSound state → IsSheet sheet
+      → sheet.proposal ≡ (state.sheets id).proposal → 1 ≤ sheet.putting_ballot → Goes (voted setting me id sheet state)
+  voted_fit id sheet state sound new same put =
+      cond_both (has_consensus script.topology sheet) (decided script.topology me id sheet.putting_stamp sheet state)
+      (with_sheet id sheet state, []) Goes
+      (λ whole. decided_fit id sheet.putting_stamp sheet state sound new same (new.putting put))
+      (λ not_whole room. (with_sheet_sound script me.partition.0 id sheet state sound new same, tt))
+
+  consensus_ack_fit : (from : ActorName) (id : CommandId) (b : ℕ) (state : ProcessState) → IsSound state
+      → Goes (on_consensus_ack setting me from id b state)
+  consensus_ack_fit from id b state sound =
+      let sheet : Sheet = with_vote (rank_of from) (state.sheets id) in
+      cond_both (can_vote me.partition.0 b (state.sheets id)) (voted setting me id sheet state) (state, []) Goes
+      (λ can. voted_fit id sheet state sound (with_vote_sound script me.partition.0 (rank_of from) (state.sheets id) (sound.sheets id)) refl
+      (is_put b (state.sheets id) can))
+      (λ cannot room. (sound, tt))
 
   payload_fit : (c : Command) (state : ProcessState) → IsSound state → IsHere c → Goes (on_payload c state)
   payload_fit c state sound ours room = (
@@ -258,6 +300,9 @@ module _ (script : Script) (accepted : IsAccepted script) (in_quorum : Command �
   body_fit from to (MPropose c floor) state sound range ours named at room = propose_fit from c floor.0 state sound (range.0, known_process script from range.0 named) (brought c ours at) room
   body_fit from to (MPayload c) state sound range ours named at room = payload_fit c state sound (brought c ours at) room
   body_fit from to (MProposeAck id t) state sound range ours named at room = propose_ack_fit from id t.0 state sound range.3 room
+  body_fit from to (MBump id t) state sound range ours named at room = (bumped_sound script me.partition.0 t.0 state sound room, tt)
+  body_fit from to (MConsensus c t b) state sound range ours named at room = consensus_fit from c t.0 b state sound (range.0, known_process script from range.0 named) (brought c ours at) range.3 range.4 room
+  body_fit from to (MConsensusAck id b) state sound range ours named at room = consensus_ack_fit from id b state sound room
   body_fit from to (MCommit c q t) state sound range ours named at room = commit_fit c q.0 t.0 state sound (commit_brought c q.0 ours at) range.4 room
   body_fit from to _ state sound range ours named at room = (sound, tt)
 

@@ -22,7 +22,7 @@ use Rattle.tp_rules.specs.Session as session
 use Rattle.tp_rules.specs.Journal.{identity_in, client_of, act_of, acts}
 use Rattle.tp_rules.specs.Rules.{outputs_of}
 use Rattle.tp_rules.specs.Runs.{outputs_by, outputs_in, FollowsRules}
-use Rattle.tp_rules.specs.Sheet.{Sheet, Setting, ring_setting, stamp_of, is_fresh, command_or, kept, can_acknowledge, acknowledged, is_full, with_stamp, final_stamp}
+use Rattle.tp_rules.specs.Sheet.{Sheet, Setting, ring_setting, stamp_of, is_fresh, command_or, kept, can_acknowledge, acknowledged, is_full, can_accept, can_vote, with_vote, has_consensus, with_stamp, final_stamp}
 use Rattle.tp_rules.specs.Tables.{nth}
 use Rattle.tp_rules.specs.declared.event.Entry.{Entry}
 use Rattle.tp_rules.specs.declared.event.Inner.TheVariants.{Submit, Recover, Announce, Declare, Execute, Crash}
@@ -142,6 +142,23 @@ module _ (s : Setting) (good : IsShape s.shape) (me : Site) where
       (λ full. chosen_short id choice sheet state) (λ full. omega arith))
       (λ e. omega arith)
 
+  consensus_short : (from : ActorName) (c : Command) (t b : ℕ) (state : process.ProcessState) → IsShort (process.on_consensus me from c t b state)
+  consensus_short from c t b state =
+      let sheet = state.sheets c.id in
+      cond_both (can_accept me.partition.0 b sheet && nat_lt b process.LIMIT) (process.accepted me from c t b sheet state) (state, []) IsShort
+      (λ e. omega arith) (λ e. omega arith)
+
+  voted_short : (id : CommandId) (sheet : Sheet) (state : process.ProcessState) → IsShort (process.voted s me id sheet state)
+  voted_short id sheet state =
+      cond_both (has_consensus s.shape sheet) (process.decided s.shape me id sheet.putting_stamp sheet state) (process.with_sheet id sheet state, []) IsShort
+      (λ e. decided_short id sheet.putting_stamp sheet state) (λ e. omega arith)
+
+  consensus_ack_short : (from : ActorName) (id : CommandId) (b : ℕ) (state : process.ProcessState) → IsShort (process.on_consensus_ack s me from id b state)
+  consensus_ack_short from id b state =
+      let sheet = with_vote (rank_of from) (state.sheets id) in
+      cond_both (can_vote me.partition.0 b (state.sheets id)) (process.voted s me id sheet state) (state, []) IsShort
+      (λ e. voted_short id sheet state) (λ e. omega arith)
+
   commit_short : (c : Command) (q t : ℕ) (state : process.ProcessState) → IsShort (process.on_commit s me c q t state)
   commit_short c q t state =
       let sheet = kept c (state.sheets c.id) in
@@ -164,8 +181,8 @@ module _ (s : Setting) (good : IsShape s.shape) (me : Site) where
   row_short from (MProposeAck id t) state = ack_short from id t.0 state
   row_short from (MCommit c q t) state = commit_short c q.0 t.0 state
   row_short from (MBump id t) state = omega arith
-  row_short from (MConsensus c t b) state = omega arith
-  row_short from (MConsensusAck id b) state = omega arith
+  row_short from (MConsensus c t b) state = consensus_short from c t.0 b state
+  row_short from (MConsensusAck id b) state = consensus_ack_short from id b state
   row_short from (MRec c b) state = omega arith
   row_short from (MRecAck id t made a b) state = omega arith
   row_short from (MPromises lo hi pairs) state = omega arith

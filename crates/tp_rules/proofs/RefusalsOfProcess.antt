@@ -11,7 +11,7 @@ use Rattle.tp_rules.specs.Rules.{enabled}
 use Rattle.tp_rules.specs.Sheet.{ring_setting}
 use Rattle.tp_rules.specs.declared.event.Inner.TheVariants.{Announce}
 use Rattle.tp_topology.specs.Shape.{Shape}
-use Rattle.tp_wire.specs.declared.message.Body.TheVariants.{MSubmit, MPropose, MPayload, MProposeAck, MCommit, MPromises}
+use Rattle.tp_wire.specs.declared.message.Body.TheVariants.{MSubmit, MPropose, MPayload, MProposeAck, MBump, MConsensus, MConsensusAck, MCommit, MPromises}
 use Rattle.tp_wire.specs.declared.message.Message.{Message}
 
 -- two partitions of five replicas, of which two may fail
@@ -50,8 +50,24 @@ propose k c floor = message (process_at 1 1) (process_at 1 k) (MPropose c (stamp
 abbrev payload : ℕ → Command → Message
 payload k c = message (process_at 1 1) (process_at 1 k) (MPayload c)
 
+abbrev acknowledge_at : ℕ → ℕ → Message
+acknowledge_at from t = message (process_at 1 from) (process_at 1 1) (MProposeAck (id 1 1) (stamp t))
+
 abbrev acknowledge : ℕ → ℕ → Message
 acknowledge from k = message (process_at 1 from) (process_at 1 k) (MProposeAck (id 1 1) (stamp 1))
+
+abbrev bump : ℕ → ℕ → Message
+bump k t = message (process_at 2 k) (process_at 1 k) (MBump (id 9 1) (stamp t))
+
+abbrev consensus : ℕ → Command → ℕ → ℕ → Message
+consensus k c t b = message (process_at 1 1) (process_at 1 k) (MConsensus c (stamp t) b)
+
+abbrev vote : ℕ → ℕ → ℕ → Message
+vote from k b = message (process_at 1 from) (process_at 1 k) (MConsensusAck (id 1 1) b)
+
+-- the home proposed 1, and put 2 to the vote at ballot 1
+abbrev put : List Act
+put = Took (acknowledge_at 4 2) ∷ Took (acknowledge_at 3 1) ∷ Took (acknowledge_at 2 1) ∷ Took (submit 1 put_b) ∷ []
 
 abbrev commit : ℕ → Command → ℕ → ℕ → Message
 commit k c q t = message (process_at 1 2) (process_at 1 k) (MCommit c (partition q) (stamp t))
@@ -116,6 +132,49 @@ acknowledge_own = refl
 acknowledge_decided : IsIgnored 1 (Took (commit 1 put_b 1 1) ∷ Took (submit 1 put_b) ∷ []) (acknowledge 2 1)
 unfolding the_rules
 acknowledge_decided = refl
+
+-- MBump
+bump_below_the_clock : IsIgnored 2 (Took (propose 2 put_b 7) ∷ []) (bump 2 6)
+unfolding the_rules
+bump_below_the_clock = refl
+
+bump_without_room : IsIgnored 2 [] (bump 2 (2 ^ 48))
+unfolding the_rules
+bump_without_room = refl
+
+-- MConsensus
+consensus_below_the_ballot : IsIgnored 2 (Took (consensus 2 put_b 3 6) ∷ []) (consensus 2 put_b 2 5)
+unfolding the_rules
+consensus_below_the_ballot = refl
+
+consensus_of_decided : IsIgnored 2 (Took (commit 2 put_b 1 2) ∷ []) (consensus 2 put_b 2 1)
+unfolding the_rules
+consensus_of_decided = refl
+
+consensus_without_room : IsIgnored 2 [] (consensus 2 put_b (2 ^ 48) 1)
+unfolding the_rules
+consensus_without_room = refl
+
+ballot_without_room : IsIgnored 2 [] (consensus 2 put_b 2 (2 ^ 48))
+unfolding the_rules
+ballot_without_room = refl
+
+-- MConsensusAck
+vote_for_nothing : IsIgnored 1 (Took (submit 1 put_b) ∷ []) (vote 2 1 1)
+unfolding the_rules
+vote_for_nothing = refl
+
+vote_at_no_ballot : IsIgnored 1 (Took (submit 1 put_b) ∷ []) (vote 2 1 0)
+unfolding the_rules
+vote_at_no_ballot = refl
+
+vote_at_another_ballot : IsIgnored 1 put (vote 2 1 2)
+unfolding the_rules
+vote_at_another_ballot = refl
+
+vote_of_decided : IsIgnored 1 (Took (commit 1 put_b 1 2) ∷ put) (vote 2 1 1)
+unfolding the_rules
+vote_of_decided = refl
 
 -- MCommit
 commit_of_other_partition : IsIgnored 2 [] (commit 2 put_b 2 1)

@@ -17,11 +17,11 @@ use Rattle.tp_quorum.specs.Choice.{present, fast_choice}
 use Rattle.tp_quorum.specs.declared.choice.FastChoice.{FastChoice}
 use Rattle.tp_quorum.specs.declared.choice.FastChoice.TheVariants.{Fast, Slow}
 use Rattle.tp_rules.specs.Addresses.{message, to_each, site, rank_of}
-use Rattle.tp_rules.specs.Process.{ProcessState, Moved, bumps, finished, learned, commits, decided, put_to_vote, proposals, submitted, on_submit, proposed, on_propose, on_payload, chosen, gathered, on_propose_ack, on_commit, announced, on_announce, untold, with_room, LIMIT, next_stamp, with_sheet}
-use Rattle.tp_rules.specs.Sheet.{Sheet, Setting, stamp_of, is_fresh, command_or, kept, can_acknowledge, acknowledged, is_full, with_stamp, final_stamp}
+use Rattle.tp_rules.specs.Process.{ProcessState, Moved, bumps, finished, learned, commits, decided, put_to_vote, proposals, submitted, on_submit, proposed, on_propose, on_payload, chosen, gathered, on_propose_ack, accepted, on_consensus, voted, on_consensus_ack, on_commit, announced, on_announce, untold, with_room, LIMIT, next_stamp, with_sheet}
+use Rattle.tp_rules.specs.Sheet.{Sheet, Setting, stamp_of, is_fresh, command_or, kept, can_acknowledge, acknowledged, is_full, can_accept, can_vote, with_vote, has_consensus, with_stamp, final_stamp}
 use Rattle.tp_topology.specs.Shape.{Shape}
 use Rattle.tp_wire.specs.declared.message.Body.{Body}
-use Rattle.tp_wire.specs.declared.message.Body.TheVariants.{MPropose, MPayload, MProposeAck, MBump, MConsensus, MCommit, MPromises, MCommitted}
+use Rattle.tp_wire.specs.declared.message.Body.TheVariants.{MPropose, MPayload, MProposeAck, MBump, MConsensus, MConsensusAck, MCommit, MPromises, MCommitted}
 use Rattle.tp_wire.specs.declared.message.Message.{Message}
 
 abbrev pub stamp : ℕ → Stamp
@@ -139,6 +139,30 @@ module _ (M : Message → Type 0) (me : Site) where
       cond_both (can_acknowledge s me.partition.0 me.rank.0 rank (state.sheets id)) (gathered s me id (acknowledged rank t (state.sheets id)) state)
       (state, []) (EachSent M)
       (λ e. gathered_sends s id (acknowledged rank t (state.sheets id)) state h k l) (λ e. tt)
+
+  pub on_consensus_sends : (from : ActorName) (c : Command) (t b : ℕ) (state : ProcessState) →
+      M (message (Process me) from (MConsensusAck c.id b)) → EachSent M (on_consensus me from c t b state)
+  on_consensus_sends from c t b state h =
+      let sheet = state.sheets c.id in
+      cond_both (can_accept me.partition.0 b sheet && nat_lt b LIMIT) (accepted me from c t b sheet state) (state, []) (EachSent M)
+      (λ e. (h, tt)) (λ e. tt)
+
+  pub voted_sends : (s : Setting) (id : CommandId) (sheet : Sheet) (state : ProcessState) →
+      ((c : Command) (to : ActorName) (t : ℕ) → sheet.command ≡ Some c → M (message (Process me) to (MCommit c me.partition (stamp t)))) →
+      ((c : Command) (t : ℕ) → sheet.command ≡ Some c → M (message (Process me) (Executor me) (MCommitted c (stamp t)))) →
+      EachSent M (voted s me id sheet state)
+  voted_sends s id sheet state h k =
+      cond_both (has_consensus s.shape sheet) (decided s.shape me id sheet.putting_stamp sheet state) (with_sheet id sheet state, []) (EachSent M)
+      (λ e. decided_sends s.shape id sheet.putting_stamp sheet state h k) (λ e. tt)
+
+  pub on_consensus_ack_sends : (s : Setting) (from : ActorName) (id : CommandId) (b : ℕ) (state : ProcessState) →
+      ((c : Command) (to : ActorName) (t : ℕ) → (state.sheets id).command ≡ Some c → M (message (Process me) to (MCommit c me.partition (stamp t)))) →
+      ((c : Command) (t : ℕ) → (state.sheets id).command ≡ Some c → M (message (Process me) (Executor me) (MCommitted c (stamp t)))) →
+      EachSent M (on_consensus_ack s me from id b state)
+  on_consensus_ack_sends s from id b state h k =
+      let sheet = with_vote (rank_of from) (state.sheets id) in
+      cond_both (can_vote me.partition.0 b (state.sheets id)) (voted s me id sheet state) (state, []) (EachSent M)
+      (λ e. voted_sends s id sheet state h k) (λ e. tt)
 
   pub on_commit_sends : (s : Setting) (c : Command) (q t : ℕ) (state : ProcessState) →
       ((d : Command) (t : ℕ) → (kept c (state.sheets c.id)).command ≡ Some d → M (message (Process me) (Executor me) (MCommitted d (stamp t)))) →

@@ -16,15 +16,19 @@ use Rattle.tp_quorum.specs.declared.choice.FastChoice.{FastChoice}
 use Rattle.tp_quorum.specs.declared.choice.FastChoice.TheVariants.{Fast, Slow}
 use Rattle.tp_rules.specs.Acts.{Act, Took, Did}
 use Rattle.tp_rules.specs.Addresses.{site, message, to_each, others_accessed, accessed, processes_of, executors_of, rank_of, is_name_of, is_body_at}
-use Rattle.tp_rules.specs.Sheet.{Sheet, Setting, blank, stamp_of, is_fresh, command_or, kept, with_proposal, can_acknowledge, acknowledged, acknowledged_own, is_full, putting, with_stamp, final_stamp}
+use Rattle.tp_rules.specs.Sheet.{Sheet, Setting, blank, stamp_of, is_fresh, command_or, kept, with_proposal, can_acknowledge, acknowledged, acknowledged_own, is_full, putting, can_accept, with_accepted, can_vote, with_vote, has_consensus, with_stamp, final_stamp}
 use Rattle.tp_rules.specs.declared.event.Inner.{Inner}
 use Rattle.tp_rules.specs.declared.event.Inner.TheVariants.{Announce}
 use Rattle.tp_topology.specs.Counting.{up_to}
 use Rattle.tp_topology.specs.Shape.{Shape}
 use Rattle.tp_topology.specs.Stability.{attached_to}
 use Rattle.tp_wire.specs.declared.message.Body.{Body}
-use Rattle.tp_wire.specs.declared.message.Body.TheVariants.{MSubmit, MPropose, MPayload, MProposeAck, MBump, MConsensus, MCommit, MPromises, MCommitted}
+use Rattle.tp_wire.specs.declared.message.Body.TheVariants.{MSubmit, MPropose, MPayload, MProposeAck, MBump, MConsensus, MConsensusAck, MCommit, MPromises, MCommitted}
 use Rattle.tp_wire.specs.declared.message.Message.{Message}
+
+-- stamps and ballots stay below this
+abbrev pub LIMIT : ℕ
+LIMIT = 2 ^ 48
 
 -- each number up to the clock is promised: to the command that it is attached to, or detached.
 -- The numbers up to `told` were announced. The newest attached promise stands first
@@ -152,6 +156,34 @@ on_propose_ack s me from id t state = cond (can_acknowledge s me.partition.0 me.
     (gathered s me id (acknowledged (rank_of from) t (state.sheets id)) state)
     (state, [])
 
+-- MBump(id, t)
+abbrev pub on_bump : ℕ → ProcessState → Moved
+on_bump t state = (bumped t state, [])
+
+abbrev pub accepted : Site → ActorName → Command → ℕ → ℕ → Sheet → ProcessState → Moved
+accepted me from c t b sheet state = (
+  bumped t (with_sheet c.id (with_accepted b t (kept c sheet)) state),
+  message (Process me) from (MConsensusAck c.id b) ∷ [],
+)
+
+-- MConsensus(c, t, b), where b can be accepted at, and is below the limit
+abbrev pub on_consensus : Site → ActorName → Command → ℕ → ℕ → ProcessState → Moved
+on_consensus me from c t b state = cond (can_accept me.partition.0 b (state.sheets c.id) && nat_lt b LIMIT)
+    (accepted me from c t b (state.sheets c.id) state)
+    (state, [])
+
+-- where a consensus quorum has voted, the stamp that is put is decided
+abbrev pub voted : Setting → Site → CommandId → Sheet → ProcessState → Moved
+voted s me id sheet state = cond (has_consensus s.shape sheet)
+    (decided s.shape me id sheet.putting_stamp sheet state)
+    (with_sheet id sheet state, [])
+
+-- MConsensusAck(id, b) from a rank, where its vote counts
+abbrev pub on_consensus_ack : Setting → Site → ActorName → CommandId → ℕ → ProcessState → Moved
+on_consensus_ack s me from id b state = cond (can_vote me.partition.0 b (state.sheets id))
+    (voted s me id (with_vote (rank_of from) (state.sheets id)) state)
+    (state, [])
+
 -- MCommit(c, q, t), where c accesses q
 abbrev pub on_commit : Setting → Site → Command → ℕ → ℕ → ProcessState → Moved
 on_commit s me c q t state = cond (is_accessed s.shape.partitions c q)
@@ -178,12 +210,11 @@ on_body s me from (MSubmit c) state = on_submit s me c state
 on_body s me from (MPropose c floor) state = on_propose s me from c floor.0 state
 on_body s me from (MPayload c) state = on_payload c state
 on_body s me from (MProposeAck id t) state = on_propose_ack s me from id t.0 state
+on_body s me from (MBump id t) state = on_bump t.0 state
+on_body s me from (MConsensus c t b) state = on_consensus me from c t.0 b state
+on_body s me from (MConsensusAck id b) state = on_consensus_ack s me from id b state
 on_body s me from (MCommit c q t) state = on_commit s me c q.0 t.0 state
 on_body s me from _ state = (state, [])
-
--- stamps stay below this
-abbrev pub LIMIT : ℕ
-LIMIT = 2 ^ 48
 
 -- a step that would bring the clock to the limit changes nothing and sends nothing
 abbrev pub with_room : ProcessState → Moved → Moved

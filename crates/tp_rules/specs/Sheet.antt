@@ -1,14 +1,15 @@
 -- What a process keeps of one command.
-use Rattle.std.specs.Prelude.{ℕ, ◌==◌, ◌&&◌, nat_lt, Bool, true, false, cond, List, Option, Some, None, is_none, is_some, length, map, replicate, unwrap_or}
+use Rattle.std.specs.Prelude.{ℕ, ◌==◌, ◌&&◌, nat_le, nat_lt, Bool, true, false, cond, List, Option, Some, None, is_none, is_some, length, map, replicate, unwrap_or}
 use Rattle.std.specs.List.{list_all}
 use Rattle.tp_base.specs.declared.names.Made.{Made}
 use Rattle.tp_base.specs.declared.names.Made.TheVariants.{Proposal, Recovery}
 use Rattle.tp_choice.specs.declared.answer.RecoveryAnswer.{RecoveryAnswer}
 use Rattle.tp_ops.specs.declared.command.Command.{Command}
+use Rattle.tp_paxos.specs.Votes.{count_votes}
 use Rattle.tp_quorum.specs.Choice.{present, greatest}
 use Rattle.tp_rules.specs.Addresses.{accessed}
 use Rattle.tp_rules.specs.Tables.{with_nth, kept_at}
-use Rattle.tp_topology.specs.Shape.{Shape, in_ring, fast_size}
+use Rattle.tp_topology.specs.Shape.{Shape, in_ring, fast_size, slow_size}
 
 -- what the rules take of the store's shape, and which ranks are of a command's fast quorum
 pub record Setting : Type 0 where
@@ -109,6 +110,25 @@ is_full shape sheet = length (present sheet.acknowledged) == fast_size shape
 -- with a stamp put at a ballot, without votes
 abbrev pub putting : Shape → ℕ → ℕ → Sheet → Sheet
 putting shape b t sheet = record sheet { putting_ballot = b; putting_stamp = t; votes = replicate shape.replicas false }
+
+-- whether the process of a partition accepts at a ballot: the partition's stamp isn't known, and it agreed to no greater ballot
+abbrev pub can_accept : ℕ → ℕ → Sheet → Bool
+can_accept p b sheet = is_none (stamp_of sheet p) && nat_le sheet.ballot b
+
+-- with a stamp accepted at a ballot
+abbrev pub with_accepted : ℕ → ℕ → Sheet → Sheet
+with_accepted b t sheet = record sheet { ballot = b; accepted_ballot = b; accepted_stamp = t }
+
+-- whether the process of a partition counts a vote at a ballot: the partition's stamp isn't known, and one is put at that ballot
+abbrev pub can_vote : ℕ → ℕ → Sheet → Bool
+can_vote p b sheet = is_none (stamp_of sheet p) && nat_lt 0 b && (sheet.putting_ballot == b)
+
+abbrev pub with_vote : ℕ → Sheet → Sheet
+with_vote rank sheet = record sheet { votes = with_nth sheet.votes rank true }
+
+-- whether a consensus quorum has voted for what is put
+abbrev pub has_consensus : Shape → Sheet → Bool
+has_consensus shape sheet = nat_le (slow_size shape) (count_votes sheet.votes)
 
 abbrev pub with_stamp : ℕ → ℕ → Sheet → Sheet
 with_stamp q t sheet = record sheet { known = with_nth sheet.known q (Some t) }

@@ -6,7 +6,7 @@ use Rattle.tp_quorum.specs.Choice.{present, fast_choice}
 use Rattle.tp_quorum.specs.declared.choice.FastChoice.{FastChoice}
 use Rattle.tp_quorum.specs.declared.choice.FastChoice.TheVariants.{Fast, Slow}
 use Rattle.tp_rules.specs.Addresses.{is_between}
-use Rattle.tp_rules.specs.Sheet.{Sheet, blank, can_acknowledge, acknowledged, acknowledged_own, is_full, putting, ring_setting, stamp_of, with_stamp, final_stamp}
+use Rattle.tp_rules.specs.Sheet.{Sheet, blank, can_acknowledge, acknowledged, acknowledged_own, is_full, putting, can_vote, with_vote, has_consensus, ring_setting, stamp_of, with_stamp, final_stamp}
 use Rattle.tp_topology.specs.Shape.{Shape}
 
 -- what the process of a site keeps of one command
@@ -65,6 +65,22 @@ with_acknowledgement rank t kept = with_sheet
     (put_by kept.shape kept.site.rank.0 (choice_by rank t kept) (acknowledged rank t kept.sheet))
     kept.sheet)
     kept
+
+-- whether the vote of a rank of the shape counts here, at a ballot
+abbrev pub takes_vote : ℕ → ℕ → SiteSheet → Bool
+takes_vote rank b kept = is_between rank kept.shape.replicas && can_vote kept.site.partition.0 b kept.sheet
+
+-- the stamp that is put, where a consensus quorum has voted for it
+abbrev pub decision_of : Shape → Sheet → Option ℕ
+decision_of shape sheet = cond (has_consensus shape sheet) (Some sheet.putting_stamp) None
+
+-- the decision that a rank's vote leads to
+abbrev pub decision_by : ℕ → ℕ → SiteSheet → Option ℕ
+decision_by rank b kept = cond (takes_vote rank b kept) (decision_of kept.shape (with_vote rank kept.sheet)) None
+
+-- with a rank's vote, where it counts
+abbrev pub with_vote_of : ℕ → ℕ → SiteSheet → SiteSheet
+with_vote_of rank b kept = with_sheet (cond (takes_vote rank b kept) (with_vote rank kept.sheet) kept.sheet) kept
 
 -- with a partition's stamp, where it was not known
 abbrev pub with_known : ℕ → ℕ → SiteSheet → SiteSheet

@@ -1,4 +1,5 @@
 ghost use Rattle.std.specs.Prelude.{◌≡◌, ◌≤◌, length};
+ghost use Rattle.tp_paxos.specs.Votes.{count_votes as votes_in};
 ghost use Rattle.tp_quorum.specs.Choice.{present, greatest, count_of, fast_choice as choice_of};
 
 use tp_base::Stamp;
@@ -34,6 +35,20 @@ pub fn count_equal(table: &[Option<u64>], wanted: u64) -> u8
                 }
             }
             None => {}
+        }
+    }
+    count
+}
+
+/// How many ranks voted.
+pub fn count_votes(votes: &[bool]) -> u8
+    requires { length votes.now ≤ 7 }
+    ensures { result ≡ votes_in votes.now }
+{
+    let mut count = 0;
+    for vote in votes {
+        if *vote {
+            count += 1;
         }
     }
     count

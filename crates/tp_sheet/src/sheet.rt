@@ -1,12 +1,12 @@
 ghost use Rattle.std.specs.Prelude.{◌≡◌, ◌≤◌, is_some, length, map};
 ghost use Rattle.std.specs.Option.{option_copied, option_map};
-ghost use Rattle.tp_rules.specs.Sheet.{kept, with_proposal, is_fresh, can_acknowledge, acknowledged, with_stamp, is_member, is_made_by_proposal, putting, ring_setting, stamp_of, greatest_known as greatest_of_known};
+ghost use Rattle.tp_rules.specs.Sheet.{kept, with_proposal, is_fresh, can_acknowledge, acknowledged, can_accept, with_accepted, can_vote, with_vote, with_stamp, is_member, is_made_by_proposal, putting, ring_setting, stamp_of, greatest_known as greatest_of_known};
 ghost use Rattle.tp_rules.specs.Addresses.{accessed, is_between};
 ghost use Rattle.tp_rules.specs.Tables.{kept_at as place_of};
-ghost use Rattle.tp_sheet.specs.SiteSheet.{IsSiteOf, blank_at, with_sheet, proposal_of, with_own, choice_where_full, choice_by, with_acknowledgement, with_known, final_of, final_by};
+ghost use Rattle.tp_sheet.specs.SiteSheet.{IsSiteOf, blank_at, with_sheet, proposal_of, with_own, choice_where_full, choice_by, with_acknowledgement, decision_of, decision_by, with_vote_of, with_known, final_of, final_by};
 
 use crate::access::accesses;
-use crate::gathered::{count, fast_choice};
+use crate::gathered::{count, count_votes, fast_choice};
 use std::marker::Model;
 use tp_base::{Made, PartitionId, Rank, Site, Stamp};
 use tp_choice::RecoveryAnswer;
@@ -163,6 +163,36 @@ impl Sheet {
         choice
     }
 
+    /// Whether a stamp can be accepted at a ballot: the site's partition has no stamp yet, and no
+    /// greater ballot was agreed to.
+    pub fn can_accept(&self, ballot: u64) -> bool
+        ensures { result ≡ can_accept self.now.site.partition.0 ballot self.now.sheet }
+    {
+        !self.knows(self.site.partition) && self.ballot <= ballot
+    }
+
+    /// Accepts a stamp at a ballot, which is agreed to with it.
+    pub fn accept(&mut self, stamp: Stamp, ballot: u64)
+        ensures { self.new ≡ with_sheet (with_accepted ballot stamp.0 self.old.sheet) self.old }
+    {
+        self.ballot = ballot;
+        self.accepted_ballot = ballot;
+        self.accepted_stamp = stamp.0;
+    }
+
+    /// Takes a rank's vote at a ballot, and gives the stamp that is put there where a consensus
+    /// quorum has voted with it.
+    pub fn vote(&mut self, rank: Rank, ballot: u64) -> Option<Stamp>
+        ensures decision { option_map (λ t. t.0) result ≡ decision_by rank.0 ballot self.old }
+        ensures taken { self.new ≡ with_vote_of rank.0 ballot self.old }
+    {
+        if !(self.has_rank(rank) && self.can_vote(ballot)) {
+            return None;
+        }
+        self.add_vote(rank);
+        self.decision()
+    }
+
     /// Learns the stamp of a partition where it is not known, and gives the final stamp where those
     /// of all the command's partitions are known with it.
     pub fn learn(&mut self, partition: PartitionId, stamp: Stamp) -> Option<Stamp>
@@ -260,6 +290,37 @@ impl Sheet {
         ensures { self.new ≡ with_sheet (with_stamp partition.0 stamp.0 self.old.sheet) self.old }
     {
         self.known[usize::from(partition.0) - 1] = Some(stamp.0);
+    }
+
+    fn votes(&self) -> &[bool]
+        ensures table { result.now ≡ self.now.sheet.votes }
+        ensures few { length result.now ≤ 7 }
+    {
+        &self.votes[..usize::from(self.topology.replicas())]
+    }
+
+    fn can_vote(&self, ballot: u64) -> bool
+        ensures { result ≡ can_vote self.now.site.partition.0 ballot self.now.sheet }
+    {
+        !self.knows(self.site.partition) && 0 < ballot && self.putting_ballot == ballot
+    }
+
+    fn add_vote(&mut self, rank: Rank)
+        requires some { 1 ≤ rank.0 }
+        requires few { rank.0 ≤ self.old.shape.replicas }
+        ensures { self.new ≡ with_sheet (with_vote rank.0 self.old.sheet) self.old }
+    {
+        self.votes[usize::from(rank.0) - 1] = true;
+    }
+
+    fn decision(&self) -> Option<Stamp>
+        ensures { option_map (λ t. t.0) result ≡ decision_of self.now.shape self.now.sheet }
+    {
+        if self.topology.slow_size() <= count_votes(self.votes()) {
+            Some(Stamp(self.putting_stamp))
+        } else {
+            None
+        }
     }
 
     fn choice(&self) -> Option<FastChoice>

@@ -75,3 +75,28 @@ fn chosen_by_the_fast_quorum(rt: HostRuntime) -> Result<(), Fail> {
     assert_eq!(rt; exactly.final_stamp(), Some(Stamp(2)));
     Ok(())
 }
+
+#[test]
+fn decided_by_the_votes(rt: HostRuntime) -> Result<(), Fail> {
+    let alloc = rt.alloc();
+    let mut sheet = proposed(alloc)?;
+    assert_eq!(rt; sheet.vote(Rank(2), 0), None, "nothing is put");
+    acknowledged(&mut sheet, [1, 1, 2]);
+    assert!(rt; sheet.can_accept(1));
+    sheet.accept(Stamp(2), 1);
+    assert!(rt; sheet.can_accept(1) && !sheet.can_accept(0));
+    assert_eq!(rt; sheet.vote(Rank(1), 1), None);
+    assert_eq!(rt; sheet.vote(Rank(5), 1), None);
+    assert_eq!(rt;
+        sheet.vote(Rank(5), 1),
+        None,
+        "a vote that comes twice is one"
+    );
+    assert_eq!(rt; sheet.vote(Rank(3), 2), None, "at another ballot");
+    assert_eq!(rt; sheet.vote(Rank(6), 1), None, "of no rank");
+    assert_eq!(rt; sheet.vote(Rank(4), 1), Some(Stamp(2)));
+    assert_eq!(rt; sheet.learn(PartitionId(1), Stamp(2)), Some(Stamp(2)));
+    assert_eq!(rt; sheet.vote(Rank(2), 1), None, "the stamp is known");
+    assert!(rt; !sheet.can_accept(1));
+    Ok(())
+}

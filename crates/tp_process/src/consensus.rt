@@ -1,0 +1,91 @@
+ghost use Rattle.std.specs.Prelude.{◌≡◌, ◌<◌, ◌∷◌, [], true, IfOk, OnOk};
+ghost use Rattle.tp_process.specs.State.{IsState, identity, takes_ballot};
+ghost use Rattle.tp_rules.specs.Addresses.{is_between, is_name_of, message, site};
+ghost use Rattle.tp_rules.specs.Process.{LIMIT as the_limit, ProcessState, on_consensus, on_consensus_ack};
+ghost use Rattle.tp_rules.specs.Sheet.{ring_setting};
+ghost use Rattle.tp_wire.specs.Ranges.{IsProcess};
+
+use crate::process::{LIMIT, Process};
+use crate::sheets::{accept, can_accept, vote};
+use tp_base::{ActorName, CommandId, Duplicate, NoMemory, Rank, Stamp};
+use tp_ops::Command;
+use tp_rules::Outputs;
+use tp_wire::{Body, Message};
+
+impl Process {
+    /// A stamp is put to the vote at a ballot.
+    pub(crate) fn on_consensus(
+        &mut self,
+        from: ActorName,
+        command: &Command,
+        stamp: Stamp,
+        ballot: u64,
+    ) -> Result<Outputs, NoMemory>
+        ensures identity { identity self.new ≡ identity self.old }
+        ensures outputs { IfOk result (λ outputs. (s : ProcessState) → IsState self.old s → outputs ≡ (on_consensus self.old.place.site from command.now stamp.0 ballot s).1) }
+        ensures state { OnOk result ((s : ProcessState) → IsState self.old s → stamp.0 < the_limit → IsState self.new (on_consensus self.old.place.site from command.now stamp.0 ballot s).0) }
+    {
+        if !self.takes_ballot(command, ballot) {
+            return Ok(self.nothing());
+        }
+        let outputs = self.agreement(from, command.id, ballot)?;
+        accept(
+            &mut self.sheets,
+            &self.place,
+            command.copy()?,
+            stamp,
+            ballot,
+        )?;
+        self.bump(stamp);
+        Ok(outputs)
+    }
+
+    /// A rank votes for what is put.
+    pub(crate) fn on_consensus_ack(
+        &mut self,
+        from: ActorName,
+        id: CommandId,
+        ballot: u64,
+    ) -> Result<Outputs, NoMemory>
+        requires { is_name_of self.old.place.topology from ≡ true }
+        ensures identity { identity self.new ≡ identity self.old }
+        ensures outputs { IfOk result (λ outputs. (s : ProcessState) → IsState self.old s → IsProcess from → outputs ≡ (on_consensus_ack (ring_setting self.old.place.topology) self.old.place.site from id ballot s).1) }
+        ensures state { OnOk result ((s : ProcessState) → IsState self.old s → IsProcess from → IsState self.new (on_consensus_ack (ring_setting self.old.place.topology) self.old.place.site from id ballot s).0) }
+    {
+        match from {
+            ActorName::Process(site) => self.count_vote(site.rank, id, ballot),
+            ActorName::Executor(_) | ActorName::Session(_) => Ok(self.nothing()),
+        }
+    }
+
+    /// Counts a rank's vote: with the last of a consensus quorum, the stamp that is put is decided.
+    fn count_vote(&mut self, rank: Rank, id: CommandId, ballot: u64) -> Result<Outputs, NoMemory>
+        ensures identity { identity self.new ≡ identity self.old }
+        ensures outputs { IfOk result (λ outputs. (s : ProcessState) → IsState self.old s → is_between rank.0 self.old.place.topology.replicas ≡ true → outputs ≡ (on_consensus_ack (ring_setting self.old.place.topology) self.old.place.site (ActorName.Process (site 0 rank.0)) id ballot s).1) }
+        ensures state { OnOk result ((s : ProcessState) → IsState self.old s → is_between rank.0 self.old.place.topology.replicas ≡ true → IsState self.new (on_consensus_ack (ring_setting self.old.place.topology) self.old.place.site (ActorName.Process (site 0 rank.0)) id ballot s).0) }
+    {
+        match vote(&mut self.sheets, &self.place, id, rank, ballot) {
+            Some(stamp) => self.decide(id, stamp),
+            None => Ok(self.nothing()),
+        }
+    }
+
+    fn takes_ballot(&self, command: &Command, ballot: u64) -> bool
+        ensures { result ≡ takes_ballot self.now command.now ballot }
+    {
+        can_accept(&self.sheets, &self.place, command.id, ballot) && ballot < LIMIT
+    }
+
+    /// The vote for what a rank puts at a ballot.
+    fn agreement(&self, from: ActorName, id: CommandId, ballot: u64) -> Result<Outputs, NoMemory>
+        ensures { IfOk result (λ outputs. outputs ≡ message (ActorName.Process self.now.place.site) from (Body.MConsensusAck id ballot) ∷ []) }
+    {
+        let mut outputs = self.nothing();
+        outputs.add(Message {
+            from: self.place.name(),
+            to: from,
+            body: Body::MConsensusAck { id, ballot },
+        })?;
+        Ok(outputs)
+    }
+}
