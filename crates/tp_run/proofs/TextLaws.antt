@@ -51,7 +51,7 @@ unfolding script_of
 read_again text s is =
     let lines : lines_of text ≡ lines_of (text_of s ++ []) = ap lines_of (is.1 ∙ sym (append-nil (text_of s))) in
     let read : script_at 1 (lines_of text) ≡ Ok (s, lines_of []) =
-        ap (script_at 1) (lines ∙ text_again s [] is.0) ∙ script_again 1 s (lines_of []) is.0 (some_piece 10 []) in
+    ap (script_at 1) (lines ∙ text_again s [] is.0) ∙ script_again 1 s (lines_of []) is.0 (some_piece 10 []) in
     rw read refl
 
 more_is_no_end : (line : List ℕ) (lines : List (List ℕ)) → 0 < length lines → is_end (line ∷ lines) ≡ false

@@ -4,8 +4,8 @@ use super::*;
 use std::alloc::{AllocError, Global};
 use std::test::Fail;
 use tp_base::{ActorName, Bytes, Picks};
-use tp_outside::{Failed, MemorySink, MemorySource, Source, SureSink};
 use tp_journal::Journal;
+use tp_outside::{Failed, MemorySink, MemorySource, Source, SureSink};
 use tp_rules::{Entry, Event, Inner};
 use tp_script::{ScriptCause, ScriptFault};
 
@@ -107,7 +107,13 @@ fn answers(alloc: Global, lines: &[u8], entries: usize, report: &[u8]) -> Result
 fn no_command_is_an_empty_journal(rt: HostRuntime) -> Result<(), Fail> {
     let report = b"report 1\norder 1.1\norder 1.2\norder 1.3\nline\nopen 0\nend\n";
     assert!(rt; answers(rt.alloc(), b"end\n", 0, report)?);
-    let alone = call(rt.alloc(), &["step"], b"tempo 1\nshape 1 3 1\nend\n", &[], &[])?;
+    let alone = call(
+        rt.alloc(),
+        &["step"],
+        b"tempo 1\nshape 1 3 1\nend\n",
+        &[],
+        &[],
+    )?;
     assert_eq!(rt; alone.status, 0);
     assert_eq!(rt; alone.written.as_slice(), report.as_slice());
     Ok(())
@@ -115,8 +121,10 @@ fn no_command_is_an_empty_journal(rt: HostRuntime) -> Result<(), Fail> {
 
 #[test]
 fn operations_are_answered_in_order(rt: HostRuntime) -> Result<(), Fail> {
-    let lines = b"command 1 cas 61 31 32 ; put 61 31 ; cas 61 31 32 ; get 61 ; del 61 ; del 61\nend\n";
-    let report = b"report 1\nreply 1.1 no none yes some:32 yes no\norder 1.1 1.1@1\norder 1.2 1.1@1\norder 1.3 1.1@1\nline 1.1\nopen 0\nend\n";
+    let lines =
+        b"command 1 cas 61 31 32 ; put 61 31 ; cas 61 31 32 ; get 61 ; del 61 ; del 61\nend\n";
+    let report =
+        b"report 1\nreply 1.1 no none yes some:32 yes no\norder 1.1 1.1@1\norder 1.2 1.1@1\norder 1.3 1.1@1\nline 1.1\nopen 0\nend\n";
     assert!(rt; answers(rt.alloc(), lines, 28, report)?);
     Ok(())
 }
@@ -124,21 +132,27 @@ fn operations_are_answered_in_order(rt: HostRuntime) -> Result<(), Fail> {
 #[test]
 fn commands_follow_each_other(rt: HostRuntime) -> Result<(), Fail> {
     let lines = b"command 1 put 61 31\ncommand 1 get 61\nend\n";
-    let report = b"report 1\nreply 1.1 none\nreply 1.2 some:31\norder 1.1 1.1@1 1.2@2\norder 1.2 1.1@1 1.2@2\norder 1.3 1.1@1 1.2@2\nline 1.1 1.2\nopen 0\nend\n";
+    let report =
+        b"report 1\nreply 1.1 none\nreply 1.2 some:31\norder 1.1 1.1@1 1.2@2\norder 1.2 1.1@1 1.2@2\norder 1.3 1.1@1 1.2@2\nline 1.1 1.2\nopen 0\nend\n";
     assert!(rt; answers(rt.alloc(), lines, 56, report)?);
     Ok(())
 }
 
 #[test]
 fn picks_choose_the_next_step(rt: HostRuntime) -> Result<(), Fail> {
-    let picked = b"tempo 1\nshape 1 3 1\nsession 1 1\ncommand 1 put 61 31\npick 3\npick 1\npick 5\nend\n";
+    let picked =
+        b"tempo 1\nshape 1 3 1\nsession 1 1\ncommand 1 put 61 31\npick 3\npick 1\npick 5\nend\n";
     let ended = call(rt.alloc(), &["step"], picked, &[], &[])?;
     assert_eq!(rt; ended.entries(), 28);
     assert_eq!(rt; ended.written.as_slice(), REPORT);
     let announces = match ended.journal.entries().get(2) {
-        Some(Entry { actor: ActorName::Process(site), event: Event::Inner(Inner::Announce), outputs: _ }) => {
-            site.partition.0 == 1 && site.rank.0 == 1
-        }
+        Some(
+            Entry {
+                actor: ActorName::Process(site),
+                event: Event::Inner(Inner::Announce),
+                outputs: _,
+            },
+        ) => { site.partition.0 == 1 && site.rank.0 == 1 }
         _ => false,
     };
     assert!(rt; announces);
@@ -151,12 +165,32 @@ fn faulty_texts_are_refused(rt: HostRuntime) -> Result<(), Fail> {
         (b"", 1, ScriptCause::Header),
         (b"tempo 2\n", 1, ScriptCause::Newer),
         (b"tempo 1\nshape 1 3 2\n", 2, ScriptCause::Shape),
-        (b"tempo 1\nshape 1 3 1\nsession 1 01\n", 3, ScriptCause::Number),
-        (b"tempo 1\nshape 1 3 1\nsession 1 1\ncommand 1 get 6\n", 4, ScriptCause::Key),
-        (b"tempo 1\nshape 1 3 1\nsession 1 1\ncommand 2 get 61\n", 4, ScriptCause::Session),
-        (b"tempo 1\nshape 1 3 1\nsession 1 1\ncommand 1 put 61 31\n", 5, ScriptCause::Missing),
+        (
+            b"tempo 1\nshape 1 3 1\nsession 1 01\n",
+            3,
+            ScriptCause::Number,
+        ),
+        (
+            b"tempo 1\nshape 1 3 1\nsession 1 1\ncommand 1 get 6\n",
+            4,
+            ScriptCause::Key,
+        ),
+        (
+            b"tempo 1\nshape 1 3 1\nsession 1 1\ncommand 2 get 61\n",
+            4,
+            ScriptCause::Session,
+        ),
+        (
+            b"tempo 1\nshape 1 3 1\nsession 1 1\ncommand 1 put 61 31\n",
+            5,
+            ScriptCause::Missing,
+        ),
         (b"tempo 1\nshape 2 3 1\nend\n\n", 4, ScriptCause::Word),
-        (b"tempo 1\nshape 1 3 1\nrepeat all 2\nend\nx", 5, ScriptCause::Word),
+        (
+            b"tempo 1\nshape 1 3 1\nrepeat all 2\nend\nx",
+            5,
+            ScriptCause::Word,
+        ),
     ];
     for (text, line, cause) in cases.iter() {
         let ended = call(rt.alloc(), &["step"], text, &[], &[])?;
