@@ -160,6 +160,29 @@ fn picks_choose_the_next_step(rt: HostRuntime) -> Result<(), Fail> {
 }
 
 #[test]
+fn five_replicas_run_to_their_report(rt: HostRuntime) -> Result<(), Fail> {
+    let text = b"tempo 1\nshape 1 5 2\nsession 1 1\ncommand 1 put 61 31\nend\n";
+    let report =
+        b"report 1\nreply 1.1 none\norder 1.1 1.1@1\norder 1.2 1.1@1\norder 1.3 1.1@1\norder 1.4 1.1@1\norder 1.5 1.1@1\nline 1.1\nopen 0\nend\n";
+    let ended = call(rt.alloc(), &["step"], text, &[], &[])?;
+    assert_eq!(rt; ended.status, 0);
+    assert_eq!(rt; ended.written.as_slice(), report.as_slice());
+    Ok(())
+}
+
+#[test]
+fn three_sessions_tie_at_one_stamp(rt: HostRuntime) -> Result<(), Fail> {
+    let text =
+        b"tempo 1\nshape 1 3 1\nsession 1 1\nsession 2 3\nsession 3 2\ncommand 1 put 61 31\ncommand 2 put 61 32\ncommand 3 put 61 33\npick 0\npick 1\npick 2\nend\n";
+    let report =
+        b"report 1\nreply 1.1 none\nreply 2.1 some:31\nreply 3.1 some:32\norder 1.1 1.1@2 2.1@2 3.1@2\norder 1.2 1.1@2 2.1@2 3.1@2\norder 1.3 1.1@2 2.1@2 3.1@2\nline 1.1 2.1 3.1\nopen 0\nend\n";
+    let ended = call(rt.alloc(), &["step"], text, &[], &[])?;
+    assert_eq!(rt; ended.status, 0);
+    assert_eq!(rt; ended.written.as_slice(), report.as_slice());
+    Ok(())
+}
+
+#[test]
 fn faulty_texts_are_refused(rt: HostRuntime) -> Result<(), Fail> {
     let cases: [(&[u8], u64, ScriptCause); 9] = [
         (b"", 1, ScriptCause::Header),
@@ -203,10 +226,8 @@ fn faulty_texts_are_refused(rt: HostRuntime) -> Result<(), Fail> {
 
 #[test]
 fn what_is_not_served_is_unbuilt(rt: HostRuntime) -> Result<(), Fail> {
-    let texts: [&[u8]; 5] = [
+    let texts: [&[u8]; 3] = [
         b"tempo 1\nshape 2 3 1\nend\n",
-        b"tempo 1\nshape 1 5 1\nend\n",
-        b"tempo 1\nshape 1 3 1\nsession 1 1\nsession 2 1\nend\n",
         b"tempo 1\nshape 1 3 1\ncrash 1.1 after 0\nend\n",
         b"tempo 1\nshape 1 3 1\nrepeat all 2\nend\n",
     ];

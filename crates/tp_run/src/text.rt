@@ -84,8 +84,5 @@ fn is_end(lines: &mut Lines) -> bool
 fn is_built(script: &Script) -> bool
     ensures { result ≡ is_built script.now }
 {
-    script.topology.partitions() == 1
-        && script.topology.replicas() == 3
-        && script.homes.len() <= 1
-        && script.plan.is_empty()
+    script.topology.partitions() == 1 && script.plan.is_empty()
 }
