@@ -4,9 +4,10 @@ ghost use Rattle.tp_base.specs.Lists.{Each};
 ghost use Rattle.tp_ops.specs.Limits.{IsAnswer, IsCommand, IsOp, IsValue};
 ghost use Rattle.tp_wire.specs.Ranges.{IsInRange};
 ghost use Rattle.tp_wire.specs.Spelling.{actor, answer, answers as answers_bytes, command as command_bytes, eight, fields_of, id as id_bytes, joined, kind_of, made_byte, op as op_bytes, pair as pair_bytes, pairs as pairs_bytes, text};
+ghost use Rattle.tp_wire.specs.declared.message.Body.TheVariants.{MConsensus, MCommit, MRecAck, MPromises, MResult};
 
 use crate::message::{Body, Message};
-use tp_base::{ActorName, CommandId, Made, NoMemory, Pair, Put, Site};
+use tp_base::{ActorName, CommandId, Made, NoMemory, Pair, PartitionId, Put, Site, Stamp};
 use tp_ops::{Answer, Command, Op};
 
 fn put_site(put: &mut Put, site: Site) -> Result<(), NoMemory>
@@ -202,6 +203,73 @@ fn put_id_at(put: &mut Put, id: CommandId, n: u64) -> Result<(), NoMemory>
     put.u64_be(n)
 }
 
+fn put_consensus(
+    put: &mut Put,
+    command: &Command,
+    stamp: Stamp,
+    ballot: u64,
+) -> Result<(), NoMemory>
+    requires { IsCommand command.now }
+    ensures { OnOk result (put.new ≡ put.old ++ joined (fields_of (MConsensus command.now stamp ballot))) }
+{
+    put_command_at(put, command, stamp.0)?;
+    put.u64_be(ballot)
+}
+
+fn put_commit(
+    put: &mut Put,
+    command: &Command,
+    partition: PartitionId,
+    stamp: Stamp,
+) -> Result<(), NoMemory>
+    requires { IsCommand command.now }
+    ensures { OnOk result (put.new ≡ put.old ++ joined (fields_of (MCommit command.now partition stamp))) }
+{
+    put_command(put, command)?;
+    put.byte(partition.0)?;
+    put.u64_be(stamp.0)
+}
+
+fn put_rec_ack(
+    put: &mut Put,
+    id: CommandId,
+    stamp: Stamp,
+    made: Made,
+    accepted: u64,
+    ballot: u64,
+) -> Result<(), NoMemory>
+    ensures { OnOk result (put.new ≡ put.old ++ joined (fields_of (MRecAck id stamp made accepted ballot))) }
+{
+    put_id_at(put, id, stamp.0)?;
+    put_made(put, made)?;
+    put.u64_be(accepted)?;
+    put.u64_be(ballot)
+}
+
+fn put_promises(put: &mut Put, lo: u64, hi: u64, pairs: &[Pair]) -> Result<(), NoMemory>
+    requires { length pairs.now ≤ 1000 }
+    ensures { OnOk result (put.new ≡ put.old ++ joined (fields_of (MPromises lo hi pairs.now))) }
+{
+    put.u64_be(lo)?;
+    put.u64_be(hi)?;
+    put_pairs(put, pairs)
+}
+
+fn put_result(
+    put: &mut Put,
+    id: CommandId,
+    partition: PartitionId,
+    answers: &[Answer],
+) -> Result<(), NoMemory>
+    requires few { length answers.now ≤ 16 }
+    requires fit { Each IsAnswer answers.now }
+    ensures { OnOk result (put.new ≡ put.old ++ joined (fields_of (MResult id partition answers.now))) }
+{
+    put_id(put, id)?;
+    put.byte(partition.0)?;
+    put_answers(put, answers)
+}
+
 /// The fields of a message behind its addressee.
 pub(crate) fn put_fields(put: &mut Put, message: &Message) -> Result<(), NoMemory>
     requires { IsInRange message.now }
@@ -217,20 +285,13 @@ pub(crate) fn put_fields(put: &mut Put, message: &Message) -> Result<(), NoMemor
             command,
             stamp,
             ballot,
-        } => {
-            put_command_at(put, command, stamp.0)?;
-            put.u64_be(*ballot)
-        }
+        } => put_consensus(put, command, *stamp, *ballot),
         Body::MConsensusAck { id, ballot } => put_id_at(put, *id, *ballot),
         Body::MCommit {
             command,
             partition,
             stamp,
-        } => {
-            put_command(put, command)?;
-            put.byte(partition.0)?;
-            put.u64_be(stamp.0)
-        }
+        } => put_commit(put, command, *partition, *stamp),
         Body::MRec { command, ballot } => put_command_at(put, command, *ballot),
         Body::MRecAck {
             id,
@@ -238,27 +299,14 @@ pub(crate) fn put_fields(put: &mut Put, message: &Message) -> Result<(), NoMemor
             made,
             accepted,
             ballot,
-        } => {
-            put_id_at(put, *id, stamp.0)?;
-            put_made(put, *made)?;
-            put.u64_be(*accepted)?;
-            put.u64_be(*ballot)
-        }
-        Body::MPromises { lo, hi, pairs } => {
-            put.u64_be(*lo)?;
-            put.u64_be(*hi)?;
-            put_pairs(put, pairs.as_slice())
-        }
+        } => put_rec_ack(put, *id, *stamp, *made, *accepted, *ballot),
+        Body::MPromises { lo, hi, pairs } => put_promises(put, *lo, *hi, pairs.as_slice()),
         Body::MCommitted { command, stamp } => put_command_at(put, command, stamp.0),
         Body::MStable { id } => put_id(put, *id),
         Body::MResult {
             id,
             partition,
             answers,
-        } => {
-            put_id(put, *id)?;
-            put.byte(partition.0)?;
-            put_answers(put, answers.as_slice())
-        }
+        } => put_result(put, *id, *partition, answers.as_slice()),
     }
 }
