@@ -1,5 +1,5 @@
 -- A byte that says which of several readers reads what follows.
-use Rattle.std.proofs.Common.{◌≡◌, ℕ, zero, suc, ◌+◌, ◌<◌, List, [], ◌∷◌, ◌++◌, Option, Some, None, Ok, Err, refl, sym, ap, subst, ◌∙◌, arith}
+use Rattle.std.proofs.Common.{◌≡◌, ℕ, zero, suc, ◌+◌, ◌<◌, List, [], ◌∷◌, ◌++◌, Option, Some, None, Ok, sym, ap, subst, ◌∙◌, arith}
 use Rattle.std.specs.List.{slice_get}
 use Rattle.tp_base.specs.Fields.{At, IsBytes, left}
 use Rattle.tp_text.specs.Steps.{◌>>=◌}
@@ -61,6 +61,9 @@ or_ok : {X : Type 0} (fault : WireFault) (o : Option X) (x : X) → or_fault fau
 or_ok fault None x e = absurd cc
 or_ok fault (Some y) x e = cc
 
+respelt : (at after : At) (text other : List ℕ) → text ≡ other → Takes at other after → Takes at text after
+respelt at after text other same taken = subst (λ (t : List ℕ). Takes at t after) (sym same) taken
+
 pub choice_field : {M : Type 0} (cause : WireCause) (readers : List (Reader M)) (text : M → List ℕ) (Fits : M → Type 0)
     → AreCases text Fits 1 readers → ((m : M) → Fits m → IsChosen text readers m) → IsField (choice_at cause readers) text Fits
 unfolding choice_at
@@ -71,7 +74,7 @@ choice_field cause readers text Fits cases chosen = record {
       let there = or_ok (fault_at cause at) (nth step.0.0 readers) inner.0 inner.1 in
       let first = any_byte_field.takes at step.0 fits step.1 in
       let behind = (case_at text Fits step.0.0 readers inner.0 cases there).takes step.0.1 x (subst (λ (bytes : List ℕ). IsBytes bytes) (sym first.0.input) fits) inner.2 in
-      (subst (λ (t : List ℕ). Takes at t x.1) (sym behind.1) (takes_then at (byte step.0.0) step.0.1 behind.0 x.1 first.0 behind.2), behind.3);
+      (respelt at x.1 (text x.0) (step.0.0 ∷ behind.0) behind.1 (takes_then at (byte step.0.0) step.0.1 behind.0 x.1 first.0 behind.2), behind.3);
   again = λ at m rest fits e.
       let is = chosen m fits in
       let first = any_byte_field.again at is.n (is.rest ++ rest) is.small (e ∙ ap (λ (t : List ℕ). t ++ rest) is.spelled) in

@@ -1,16 +1,15 @@
 -- Commands and answers.
-use Rattle.std.proofs.Common.{◌≡◌, ℕ, ◌≤◌, List, [], ◌∷◌, ◌++◌, length, refl, sym, ap, subst, arith}
+use Rattle.std.proofs.Common.{ℕ, List, [], ◌∷◌, ◌++◌, length, refl, sym, ap, subst, arith}
 use Rattle.std.specs.List.{flat_map}
 use Rattle.std.proofs.lemmas.List.{append-nil}
-use Rattle.tp_base.specs.Limits.{IsFrom, IsId}
+use Rattle.tp_base.specs.Limits.{IsFrom}
 use Rattle.tp_base.specs.Lists.{Each}
 use Rattle.tp_ops.specs.Limits.{IsAnswer, IsCommand, IsKey, IsOp, IsValue}
-use Rattle.tp_ops.specs.declared.command.Command.{Command}
 use Rattle.tp_ops.specs.declared.operation.Answer.{Answer}
 use Rattle.tp_ops.specs.declared.operation.Answer.TheVariants.{Missing, Value, Yes, No}
 use Rattle.tp_ops.specs.declared.operation.Op.{Op}
 use Rattle.tp_ops.specs.declared.operation.Op.TheVariants.{Get, Put, Del, Cas}
-use Rattle.tp_wire.specs.Meaning.{Reader, answer_at, answers_at, cas_at, command_at, del_at, get_at, just, key_at, op_at, ops_at, put_at, text_at, text_value_at, times_at, value_answer_at}
+use Rattle.tp_wire.specs.Meaning.{Reader, answer_at, answers_at, cas_at, command_at, del_at, get_at, just, op_at, ops_at, put_at, text_at, value_answer_at}
 use Rattle.tp_wire.specs.Spelling.{answer, answers, byte, command, id, joined, op, text}
 use Rattle.tp_wire.specs.declared.fault.WireCause.TheVariants.{Range}
 use Rattle.tp_wire.proofs.Chosen.{AreCases, IsChosen, case_of, choice_field}

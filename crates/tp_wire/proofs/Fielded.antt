@@ -1,5 +1,5 @@
 -- What a reader and a spelling have to do with each other (`IsField`), and that fields one after the other keep it.
-use Rattle.std.proofs.Common.{◌≡◌, ℕ, List, [], ◌++◌, Result, Ok, Err, refl, sym, ap, subst, ◌∙◌, append_assoc}
+use Rattle.std.proofs.Common.{◌≡◌, ℕ, List, [], ◌++◌, Ok, refl, sym, ap, subst, ◌∙◌, append_assoc}
 use Rattle.std.proofs.lemmas.List.{append-nil}
 use Rattle.tp_base.specs.Fields.{At, IsBytes, left}
 use Rattle.tp_text.specs.Steps.{◌>>=◌}

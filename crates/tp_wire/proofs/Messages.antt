@@ -1,6 +1,5 @@
 -- The fourteen kinds of messages, and all of them together.
-use Rattle.std.proofs.Common.{◌≡◌, ℕ, ◌+◌, ◌-◌, ◌^◌, ◌≤◌, ◌<◌, List, [], ◌∷◌, ◌++◌, length, Option, Some, Ok, refl, sym, ap, arith}
-use Rattle.tp_base.specs.Fields.{left}
+use Rattle.std.proofs.Common.{◌≡◌, ℕ, ◌+◌, ◌-◌, ◌≤◌, ◌<◌, List, ◌∷◌, length, Some, refl, ap, arith}
 use Rattle.tp_base.specs.Limits.{IsFrom, IsId}
 use Rattle.tp_base.specs.Lists.{Each}
 use Rattle.tp_base.specs.declared.names.ActorName.{ActorName}
@@ -12,7 +11,7 @@ use Rattle.tp_base.specs.declared.names.Stamp.{Stamp}
 use Rattle.tp_ops.specs.Limits.{IsAnswer, IsCommand}
 use Rattle.tp_ops.specs.declared.command.Command.{Command}
 use Rattle.tp_ops.specs.declared.operation.Answer.{Answer}
-use Rattle.tp_wire.specs.Meaning.{Reader, ballot_at, bump_at, commit_at, committed_at, consensus_ack_at, consensus_at, kinds, message_at, most, nth, payload_at, promises_at, propose_ack_at, propose_at, rec_ack_at, rec_at, result_at, sent, stable_at, submit_at}
+use Rattle.tp_wire.specs.Meaning.{Reader, bump_at, commit_at, committed_at, consensus_ack_at, consensus_at, kinds, message_at, most, nth, payload_at, promises_at, propose_ack_at, propose_at, rec_ack_at, rec_at, result_at, sent, stable_at, submit_at}
 use Rattle.tp_wire.specs.Ranges.{IsAttached, IsBody, IsClient, IsExecutor, IsInRange, IsNumber, IsProcess}
 use Rattle.tp_wire.specs.Spelling.{actor, bytes_of, fields_of, joined, kind_of}
 use Rattle.tp_wire.specs.declared.fault.WireCause.TheVariants.{Kind}

@@ -1,5 +1,5 @@
 -- Numbers of one byte.
-use Rattle.std.proofs.Common.{◌≡◌, ℕ, ◌<◌, ◌/◌, ◌%◌, ◌^◌, ◌*◌, ◌+◌, [], ◌∷◌, ap, ◌∙◌, arith}
+use Rattle.std.proofs.Common.{◌≡◌, ℕ, ◌<◌, ◌%◌, [], ◌∷◌, ap, ◌∙◌, arith}
 use Rattle.std.proofs.Math.Nat.{div-one, mod-eq_of_lt}
 use Rattle.tp_base.specs.Fields.{big_endian, big_endian_value}
 

@@ -3,8 +3,8 @@ use Rattle.std.proofs.Common.{◌≡◌, true, List, [], ◌++◌, ℕ, length, 
 use Rattle.std.specs.Prelude.{◌==◌, IfOk}
 use Rattle.std.proofs.lemmas.Bool.{eqb-true}
 use Rattle.std.proofs.lemmas.List.{append-nil, nil_from_length}
-use Rattle.tp_base.specs.Fields.{At, IsBytes, left}
-use Rattle.tp_text.specs.Steps.{◌>>=◌, ◌>>◌}
+use Rattle.tp_base.specs.Fields.{IsBytes, left}
+use Rattle.tp_text.specs.Steps.{◌>>=◌}
 use Rattle.tp_text.proofs.Stepped.{bind_ok, need_ok, ok_is}
 use Rattle.tp_wire.specs.Meaning.{ended_at, fault_at, message_at, message_of, start}
 use Rattle.tp_wire.specs.Ranges.{IsInRange}

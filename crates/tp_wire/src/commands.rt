@@ -74,8 +74,8 @@ fn take_so_many_ops(alloc: Global, cut: &mut Cut, count: u8) -> Result<Ops, Wire
 fn take_ops(alloc: Global, cut: &mut Cut) -> Result<Ops, WireError>
     ensures { Gives (λ ops. (ops, cut.new)) result (ops_at cut.old) }
 {
-    let count = take_byte(cut, 1, 16)?;
-    take_so_many_ops(alloc, cut, count)
+    let ops = take_byte(cut, 1, 16)?;
+    take_so_many_ops(alloc, cut, ops)
 }
 
 #[tactic(auto, unfolding(crate::specs::Meaning::command_at))]
@@ -130,6 +130,6 @@ fn take_so_many_answers(alloc: Global, cut: &mut Cut, count: u8) -> Result<Answe
 pub(crate) fn take_answers(alloc: Global, cut: &mut Cut) -> Result<Answers, WireError>
     ensures { Gives (λ answers. (answers, cut.new)) result (answers_at cut.old) }
 {
-    let count = take_byte(cut, 1, 16)?;
-    take_so_many_answers(alloc, cut, count)
+    let answers = take_byte(cut, 1, 16)?;
+    take_so_many_answers(alloc, cut, answers)
 }

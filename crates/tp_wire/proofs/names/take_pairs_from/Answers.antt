@@ -1,4 +1,3 @@
-use Rattle.std.proofs.Common.{arith}
 use Rattle.std.proofs.lemmas.Result.{err_from_is_err_and}
 use Rattle.tp_wire.specs.Meaning.{pairs_from}
 use Rattle.tp_wire.proofs.Counted.{pairs_done, pairs_end, pairs_go_on}
