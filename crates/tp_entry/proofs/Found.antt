@@ -1,6 +1,5 @@
 -- What was read as a journal is its text: each line that was read is the next line of the text.
-use Rattle.std.proofs.Common.{◌≡◌, ◌==◌, ℕ, ◌+◌, inl, inr, Bool, true, false, cond, leb, List, [], ◌∷◌, ◌++◌, map, Result, Ok, Err, refl, sym, ap, subst, ◌∙◌, arith, append_assoc}
-use Rattle.std.specs.Fmt.{decimal}
+use Rattle.std.proofs.Common.{◌≡◌, ◌==◌, ℕ, ◌+◌, inl, inr, Bool, true, false, cond, leb, List, [], ◌∷◌, ◌++◌, Result, Ok, Err, sym, ap, subst, ◌∙◌, arith, append_assoc}
 use Rattle.std.specs.List.{join_with_byte}
 use Rattle.std.specs.Prelude.{codes}
 use Rattle.std.specs.Str.{bytes_eq}
@@ -24,7 +23,7 @@ use Rattle.tp_text.specs.declared.numbers.NumberFault.{NumberFault}
 use Rattle.tp_text.proofs.Joined.{joined_words}
 use Rattle.tp_text.proofs.Numerals.{number_takes}
 use Rattle.tp_text.proofs.Stepped.{bind_ok, chosen, ok_is}
-use Rattle.tp_entry.proofs.Grown.{Begun, Grows, Words, ended, grew, line_is}
+use Rattle.tp_entry.proofs.Grown.{Begun, Words, ended, grew, line_is}
 use Rattle.tp_entry.proofs.LinesRead.{unread}
 
 -- ---- all lines behind the first

@@ -1,18 +1,16 @@
 -- What a line that was read adds: the entries so far keep having a text, and the text grows by the line.
-use Rattle.std.proofs.Common.{◌≡◌, ℕ, inl, inr, Bool, true, false, cond, List, [], ◌∷◌, ◌++◌, map, Option, Some, None, Result, Ok, Err, refl, sym, ap, subst, ◌∙◌, append_assoc}
+use Rattle.std.proofs.Common.{◌≡◌, ℕ, inl, inr, Bool, true, false, cond, List, [], ◌∷◌, ◌++◌, map, Option, Some, None, Result, Ok, refl, sym, ap, subst, ◌∙◌, append_assoc}
 use Rattle.std.specs.Prelude.{codes}
 use Rattle.std.specs.Option.{option_to_list}
 use Rattle.std.specs.Str.{bytes_eq}
 use Rattle.std.proofs.lemmas.List.{append-nil, map_push}
-use Rattle.tp_base.specs.Lists.{Each}
 use Rattle.tp_base.proofs.Each.{each_append, each_left, each_push, each_right}
 use Rattle.tp_entry.specs.Journals.{IsEntry, IsJournal}
-use Rattle.tp_entry.specs.Kinds.{message, message_word, no_word, row}
+use Rattle.tp_entry.specs.Kinds.{message, no_word, row}
 use Rattle.tp_entry.specs.Meaning.{all_of, begun, entry_at, line_of, output_at, with_entry, with_output}
 use Rattle.tp_entry.specs.Print.{body, end_words, entry_lines, entry_words, output_words}
 use Rattle.tp_entry.specs.declared.draft.Draft.{Draft}
 use Rattle.tp_entry.specs.declared.fault.JournalCause.{JournalCause}
-use Rattle.tp_entry.specs.declared.fault.JournalCause.TheVariants.{Word}
 use Rattle.tp_rules.specs.declared.event.Entry.{Entry}
 use Rattle.tp_script.proofs.Kinded.{same_bytes}
 use Rattle.tp_text.specs.Steps.{◌>>=◌}

@@ -1,17 +1,16 @@
 -- The text of a journal is read as the journal, whatever stands behind it.
-use Rattle.std.proofs.Common.{◌≡◌, ℕ, ◌+◌, ◌<◌, ◌≤◌, ◌⊎◌, inl, inr, Bool, true, false, List, [], ◌∷◌, ◌++◌, length, map, Some, None, Result, Ok, Err, refl, sym, ap, subst, ◌∙◌, arith, append_assoc}
+use Rattle.std.proofs.Common.{◌≡◌, ℕ, ◌+◌, ◌<◌, ◌≤◌, ◌⊎◌, inl, inr, Bool, true, false, List, [], ◌∷◌, ◌++◌, length, map, Some, Result, Ok, Err, refl, sym, ap, subst, ◌∙◌, arith, append_assoc}
 use Rattle.std.specs.List.{join_with_byte}
 use Rattle.std.specs.Prelude.{codes}
 use Rattle.std.specs.Str.{bytes_eq}
 use Rattle.std.proofs.lemmas.List.{append-nil}
 use Rattle.tp_base.specs.Lists.{Each}
 use Rattle.tp_base.specs.declared.names.ActorName.{ActorName}
-use Rattle.tp_base.specs.declared.names.ActorName.TheVariants.{Process, Executor, Session}
 use Rattle.tp_base.proofs.Each.{each_append, each_weaker}
 use Rattle.tp_entry.specs.Journals.{IsEntry, IsJournal}
 use Rattle.tp_entry.specs.Kinds.{IsActorName, IsSaid, kinds, message, read_actor, read_site, dotted_at}
 use Rattle.tp_entry.specs.Meaning.{all_of, at_line, header_at, header_line, journal_at, line_of, lines_from, none_yet, one_line, output_at, with_entry}
-use Rattle.tp_entry.specs.Print.{body, end_words, entry_words, event_words, header_words, journal_lines, output_words, text_of}
+use Rattle.tp_entry.specs.Print.{body, end_words, entry_words, header_words, journal_lines, output_words, text_of}
 use Rattle.tp_entry.specs.declared.draft.Draft.{Draft}
 use Rattle.tp_entry.specs.declared.fault.JournalCause.{JournalCause}
 use Rattle.tp_entry.specs.declared.fault.JournalCause.TheVariants.{Header, Missing, Word}
