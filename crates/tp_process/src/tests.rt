@@ -176,51 +176,73 @@ fn fourth(alloc: Global) -> Result<Process, Fail> {
     Ok(Process::new(alloc, &topology, site))
 }
 
-/// The process of rank 1 of five, in the first of two partitions, with the proposals of ranks 2 and 3.
-fn asked(alloc: Global, second: u64, third: u64) -> Result<Process, Fail> {
+/// How many messages a process sends at a delivery.
+fn sends(process: &mut Process, message: &Message) -> Result<usize, NoMemory> {
+    Ok(process.deliver(message)?.len())
+}
+
+/// The process of rank 1 of five, in the first of two partitions, with a command submitted.
+fn asking(alloc: Global) -> Result<Process, Fail> {
     let topology = Topology::new(2, 5, 2)?;
     let site = Site {
         partition: PartitionId(1),
         rank: Rank(1),
     };
     let mut process = Process::new(alloc, &topology, site);
-    process.deliver(&submission(alloc)?)?;
-    process.deliver(&proposal_of(2, second))?;
-    process.deliver(&proposal_of(3, third))?;
+    sends(&mut process, &submission(alloc)?)?;
+    Ok(process)
+}
+
+/// The same, with 2 put to the vote.
+fn putting(alloc: Global) -> Result<Process, Fail> {
+    let mut process = asking(alloc)?;
+    sends(&mut process, &proposal_of(2, 1))?;
+    sends(&mut process, &proposal_of(3, 1))?;
+    sends(&mut process, &proposal_of(4, 2))?;
     Ok(process)
 }
 
 #[test]
 fn decided_fast_by_two_of_five(rt: HostRuntime) -> Result<(), Fail> {
-    let alloc = rt.alloc();
-    let mut process = asked(alloc, 1, 2)?;
-    let told = process.deliver(&proposal_of(4, 2))?;
-    assert_eq!(rt; told.len(), 5, "four other ranks and the executor");
+    let mut process = asking(rt.alloc())?;
+    assert_eq!(rt; sends(&mut process, &proposal_of(2, 1))?, 0);
+    assert_eq!(rt; sends(&mut process, &proposal_of(3, 2))?, 0);
+    assert_eq!(rt;
+        sends(&mut process, &proposal_of(4, 2))?,
+        5,
+        "four ranks and the executor"
+    );
     assert_eq!(rt; process.clock(), 2);
-    assert_eq!(rt; process.stamp(ID), Some(Stamp(2)));
+    Ok(())
+}
+
+#[test]
+fn put_to_the_vote(rt: HostRuntime) -> Result<(), Fail> {
+    let mut process = putting(rt.alloc())?;
+    assert_eq!(rt; process.clock(), 1);
+    assert_eq!(rt; sends(&mut process, &put(rt.alloc(), 1)?)?, 1);
+    assert_eq!(rt; process.clock(), 2);
+    assert_eq!(rt; process.stamp(ID), None);
     Ok(())
 }
 
 #[test]
 fn decided_by_three_votes(rt: HostRuntime) -> Result<(), Fail> {
-    let alloc = rt.alloc();
-    let mut process = asked(alloc, 1, 1)?;
-    let asked = process.deliver(&proposal_of(4, 2))?;
-    assert_eq!(rt; asked.len(), 5, "all ranks");
-    assert_eq!(rt; process.clock(), 1);
-    let agreed = process.deliver(&put(alloc, 1)?)?;
-    assert_eq!(rt; agreed.len(), 1);
-    assert_eq!(rt; process.clock(), 2);
-    for (rank, ballot) in [(1, 1), (5, 1), (5, 1), (3, 2)] {
-        let waiting = process.deliver(&vote(rank, ballot))?;
-        assert_eq!(rt; waiting.len(), 0);
-    }
-    assert_eq!(rt; process.stamp(ID), None);
-    let told = process.deliver(&vote(3, 1))?;
-    assert_eq!(rt; told.len(), 5, "four other ranks and the executor");
+    let mut process = putting(rt.alloc())?;
+    assert_eq!(rt; sends(&mut process, &vote(1, 1))?, 0);
+    assert_eq!(rt; sends(&mut process, &vote(5, 1))?, 0);
+    assert_eq!(rt;
+        sends(&mut process, &vote(5, 1))?,
+        0,
+        "a vote that comes twice is one"
+    );
+    assert_eq!(rt; sends(&mut process, &vote(3, 2))?, 0, "at another ballot");
+    assert_eq!(rt;
+        sends(&mut process, &vote(3, 1))?,
+        5,
+        "four ranks and the executor"
+    );
     assert_eq!(rt; process.stamp(ID), Some(Stamp(2)));
-    let late = process.deliver(&put(alloc, 1)?)?;
-    assert_eq!(rt; late.len(), 0);
     Ok(())
 }
 
@@ -228,11 +250,13 @@ fn decided_by_three_votes(rt: HostRuntime) -> Result<(), Fail> {
 fn voted_unasked(rt: HostRuntime) -> Result<(), Fail> {
     let alloc = rt.alloc();
     let mut process = fourth(alloc)?;
-    let agreed = process.deliver(&put(alloc, 4)?)?;
-    assert_eq!(rt; agreed.len(), 1);
+    assert_eq!(rt; sends(&mut process, &put(alloc, 4)?)?, 1);
     assert_eq!(rt; process.clock(), 2);
-    let refused = process.deliver(&floored(alloc)?)?;
-    assert_eq!(rt; refused.len(), 0, "its ballot is 1");
+    assert_eq!(rt;
+        sends(&mut process, &floored(alloc)?)?,
+        0,
+        "its ballot is 1"
+    );
     Ok(())
 }
 
@@ -240,11 +264,9 @@ fn voted_unasked(rt: HostRuntime) -> Result<(), Fail> {
 fn proposed_above_a_bump(rt: HostRuntime) -> Result<(), Fail> {
     let alloc = rt.alloc();
     let mut process = fourth(alloc)?;
-    let told = process.deliver(&bump())?;
-    assert_eq!(rt; told.len(), 0);
+    assert_eq!(rt; sends(&mut process, &bump())?, 0);
     assert_eq!(rt; process.clock(), 1);
-    let answered = process.deliver(&floored(alloc)?)?;
-    assert_eq!(rt; answered.len(), 1);
+    assert_eq!(rt; sends(&mut process, &floored(alloc)?)?, 1);
     assert_eq!(rt; process.clock(), 2);
     Ok(())
 }
