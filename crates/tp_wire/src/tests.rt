@@ -122,6 +122,8 @@ fn a_submission_is_decoded(rt: HostRuntime) {
 fn other_bytes_are_refused(rt: HostRuntime) -> Result<(), Fail> {
     assert!(rt; is_refused(rt.alloc(), &SUBMIT[..15], 15, WireCause::Short));
     assert!(rt; is_refused(rt.alloc(), b"", 0, WireCause::Short));
+    assert!(rt; is_refused(rt.alloc(), &REC_ACK[..12], 10, WireCause::Short));
+    assert!(rt; is_refused(rt.alloc(), &PROMISES[..50], 43, WireCause::Short));
     let more = longer(rt.alloc(), SUBMIT, 1)?;
     assert!(rt; is_refused(rt.alloc(), more.as_slice(), 16, WireCause::Trailing));
     let kind = changed(rt.alloc(), SUBMIT, 0, 15)?;
