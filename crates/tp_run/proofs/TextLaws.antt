@@ -1,5 +1,5 @@
 -- A whole text and its script: each is the other's.
-use Rattle.std.proofs.Common.{◌≡◌, ℕ, ◌+◌, ◌≤◌, ◌<◌, ◌&&◌, nat_le, nat_lt, take, min, Bool, true, false, List, [], ◌∷◌, ◌++◌, Option, Some, None, Result, Ok, Err, ◌⊎◌, inl, inr, refl, sym, subst, ◌∙◌, ap, arith, length, append-nil}
+use Rattle.std.proofs.Common.{◌≡◌, ℕ, ◌+◌, ◌≤◌, ◌<◌, nat_le, nat_lt, take, min, Bool, true, false, List, [], ◌∷◌, ◌++◌, Option, Some, None, Result, Ok, Err, ◌⊎◌, inl, inr, refl, sym, subst, ◌∙◌, ap, arith, length, append-nil}
 use Rattle.std.proofs.lemmas.List.{length-take, take_all}
 use Rattle.tp_driver.specs.Driving.{IsServed}
 use Rattle.tp_run.specs.declared.finished.Cause.{Cause}
@@ -142,11 +142,7 @@ plan_is_empty : (plan : List PlanLine) → no_lines plan ≡ true → plan ≡ [
 plan_is_empty [] e = refl
 plan_is_empty (line ∷ lines) e = absurd cc
 
-and_last : (a b : Bool) → (a && b) ≡ true → b ≡ true
-and_last true b e = e
-and_last false b e = absurd cc
-
 -- a script that is built is served
 pub built_is_served : (text : List ℕ) (s : Script) → IsTextOf text s → is_built s ≡ true → IsServed s
 unfolding is_built
-built_is_served text s is built = record { accepted = is.0; no_plan = plan_is_empty s.plan (and_last _ (no_lines s.plan) built) }
+built_is_served text s is built = record { accepted = is.0; no_plan = plan_is_empty s.plan built }

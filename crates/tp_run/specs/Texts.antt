@@ -1,5 +1,5 @@
 -- What a whole input says: a script with nothing behind it, or the cause of its refusal.
-use Rattle.std.specs.Prelude.{ℕ, ◌≡◌, ◌+◌, ◌==◌, ◌&&◌, nat_lt, Bool, true, false, if◌then◌else◌, List, [], ◌∷◌, Option, Some, None, Result, Ok, Err, length}
+use Rattle.std.specs.Prelude.{ℕ, ◌≡◌, ◌+◌, nat_lt, Bool, true, false, if◌then◌else◌, List, [], ◌∷◌, Option, Some, None, Result, Ok, Err, length}
 use Rattle.tp_run.specs.declared.finished.Cause.{Cause}
 use Rattle.tp_run.specs.declared.finished.Cause.TheVariants.{Script as Faulty, Input, Unbuilt}
 use Rattle.tp_script.specs.Accepted.{IsAccepted}
@@ -37,9 +37,9 @@ abbrev pub no_lines : List PlanLine → Bool
 no_lines [] = true
 no_lines (line ∷ lines) = false
 
--- what is served today: one partition, no plan
+-- what is served today: no plan
 unfoldable pub is_built : Script → Bool
-is_built script = (script.topology.partitions == 1) && no_lines script.plan
+is_built script = no_lines script.plan
 
 abbrev pub cause_of_read : Result Script ScriptFault → Option Cause
 cause_of_read (Err fault) = Some (Faulty fault)

@@ -183,6 +183,18 @@ fn three_sessions_tie_at_one_stamp(rt: HostRuntime) -> Result<(), Fail> {
 }
 
 #[test]
+fn the_line_of_two_partitions_is_not_that_of_stamps(rt: HostRuntime) -> Result<(), Fail> {
+    let text =
+        b"tempo 1\nshape 2 3 1\nsession 1 1\nsession 2 1\ncommand 1 put 62 31 ; put 61 31\ncommand 2 get 62\ncommand 2 get 62\ncommand 2 get 61\nend\n";
+    let report =
+        b"report 1\nreply 1.1 none none\nreply 2.1 some:31\nreply 2.2 some:31\nreply 2.3 some:31\norder 1.1 1.1@1 2.1@2 2.2@3\norder 1.2 1.1@1 2.1@2 2.2@3\norder 1.3 1.1@1 2.1@2 2.2@3\norder 2.1 1.1@1 2.3@2\norder 2.2 1.1@1 2.3@2\norder 2.3 1.1@1 2.3@2\nline 1.1 2.1 2.2 2.3\nopen 0\nend\n";
+    let ended = call(rt.alloc(), &["step"], text, &[], &[])?;
+    assert_eq!(rt; ended.status, 0);
+    assert_eq!(rt; ended.written.as_slice(), report.as_slice());
+    Ok(())
+}
+
+#[test]
 fn faulty_texts_are_refused(rt: HostRuntime) -> Result<(), Fail> {
     let cases: [(&[u8], u64, ScriptCause); 9] = [
         (b"", 1, ScriptCause::Header),
@@ -226,8 +238,7 @@ fn faulty_texts_are_refused(rt: HostRuntime) -> Result<(), Fail> {
 
 #[test]
 fn what_is_not_served_is_unbuilt(rt: HostRuntime) -> Result<(), Fail> {
-    let texts: [&[u8]; 3] = [
-        b"tempo 1\nshape 2 3 1\nend\n",
+    let texts: [&[u8]; 2] = [
         b"tempo 1\nshape 1 3 1\ncrash 1.1 after 0\nend\n",
         b"tempo 1\nshape 1 3 1\nrepeat all 2\nend\n",
     ];

@@ -84,5 +84,5 @@ fn is_end(lines: &mut Lines) -> bool
 fn is_built(script: &Script) -> bool
     ensures { result ≡ is_built script.now }
 {
-    script.topology.partitions() == 1 && script.plan.is_empty()
+    script.plan.is_empty()
 }
