@@ -214,7 +214,13 @@ impl Executor {
         if is_alone(&self.topology, p, &next.command) {
             return true;
         }
-        let awaited = awaited(&self.topology, p, &self.declared, next.key.id, &next.command);
+        let awaited = awaited(
+            &self.topology,
+            p,
+            &self.declared,
+            next.key.id,
+            &next.command,
+        );
         self.declared.sent(next.key.id) && awaited.is_none()
     }
 

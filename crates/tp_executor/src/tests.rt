@@ -230,9 +230,17 @@ fn declared_first(rt: HostRuntime) -> Result<(), Fail> {
     takes(&mut executor, &promised(alloc, 3)?)?;
     assert_eq!(rt; executor.next_inner(), Some(Inner::Declare(ID)));
     assert!(rt; are_declarations(&fired(&mut executor, alloc)?));
-    assert_eq!(rt; executor.next_inner(), None, "declared, and not heard of yet");
+    assert_eq!(rt;
+        executor.next_inner(),
+        None,
+        "declared, and not heard of yet"
+    );
     takes(&mut executor, &stable(1, 2))?;
-    assert_eq!(rt; executor.next_inner(), None, "its own partition says nothing");
+    assert_eq!(rt;
+        executor.next_inner(),
+        None,
+        "its own partition says nothing"
+    );
     takes(&mut executor, &stable(2, 3))?;
     assert_eq!(rt; executor.next_inner(), Some(Inner::Execute(ID)));
     assert!(rt; is_one_result(&fired(&mut executor, alloc)?));
