@@ -88,6 +88,20 @@ fn committed(command: Command) -> Message
     }
 }
 
+/// The command on one partition is committed at stamp 1.
+fn committed_on_one(alloc: Global) -> Result<Message, NoMemory>
+    ensures { IfOk result IsInRange }
+{
+    Ok(committed(command(alloc)?))
+}
+
+/// The command on both partitions is committed at stamp 1.
+fn committed_on_both(alloc: Global) -> Result<Message, NoMemory>
+    ensures { IfOk result IsInRange }
+{
+    Ok(committed(command_on_both(alloc)?))
+}
+
 /// An executor of a partition declared the command.
 fn stable(partition: u8, rank: u8) -> Message
     requires partition { (1 ≤ partition) × (partition ≤ 4) }
@@ -209,55 +223,71 @@ fn executed_once(rt: HostRuntime) -> Result<(), Fail> {
     let mut executor = executor(alloc, 1)?;
     assert_eq!(rt; executor.name(), ActorName::Executor(site(1)));
     takes(&mut executor, &promised(alloc, 1)?)?;
-    takes(&mut executor, &committed(command(alloc)?))?;
+    takes(&mut executor, &committed_on_one(alloc)?)?;
     assert_eq!(rt; executor.next_inner(), None, "one rank is no majority");
     takes(&mut executor, &promised(alloc, 2)?)?;
     assert_eq!(rt; executor.next_inner(), Some(Inner::Execute(ID)));
     assert!(rt; is_one_result(&fired(&mut executor, alloc)?));
-    takes(&mut executor, &committed(command(alloc)?))?;
+    takes(&mut executor, &committed_on_one(alloc)?)?;
     assert_eq!(rt; executor.next_inner(), None, "executed once");
     assert!(rt; !executor.spent());
     Ok(())
 }
 
-#[test]
-fn declared_first(rt: HostRuntime) -> Result<(), Fail> {
-    let alloc = rt.alloc();
+/// An executor of the first of two partitions, at which a command on both is stable.
+fn with_a_stable_command(alloc: Global) -> Result<Executor, Fail>
+    ensures unspent { IfOk result (λ executor. executor.spent ≡ false) }
+    ensures stands { IfOk result (λ executor. (acts : List Act) × Stands executor acts) }
+{
     let mut executor = executor(alloc, 2)?;
-    takes(&mut executor, &committed(command_on_both(alloc)?))?;
+    takes(&mut executor, &committed_on_both(alloc)?)?;
     takes(&mut executor, &promised(alloc, 1)?)?;
-    assert_eq!(rt; executor.next_inner(), None, "one rank is no majority");
     takes(&mut executor, &promised(alloc, 3)?)?;
+    Ok(executor)
+}
+
+/// The same, and it has declared the command.
+fn that_declared(alloc: Global) -> Result<Executor, Fail>
+    ensures unspent { IfOk result (λ executor. executor.spent ≡ false) }
+    ensures stands { IfOk result (λ executor. (acts : List Act) × Stands executor acts) }
+{
+    let mut executor = with_a_stable_command(alloc)?;
+    fired(&mut executor, alloc)?;
+    Ok(executor)
+}
+
+#[test]
+fn declared_once_it_is_stable(rt: HostRuntime) -> Result<(), Fail> {
+    let alloc = rt.alloc();
+    let mut executor = with_a_stable_command(alloc)?;
     assert_eq!(rt; executor.next_inner(), Some(Inner::Declare(ID)));
     assert!(rt; are_declarations(&fired(&mut executor, alloc)?));
-    assert_eq!(rt;
-        executor.next_inner(),
-        None,
-        "declared, and not heard of yet"
-    );
-    takes(&mut executor, &stable(1, 2))?;
-    assert_eq!(rt;
-        executor.next_inner(),
-        None,
-        "its own partition says nothing"
-    );
-    takes(&mut executor, &stable(2, 3))?;
-    assert_eq!(rt; executor.next_inner(), Some(Inner::Execute(ID)));
-    assert!(rt; is_one_result(&fired(&mut executor, alloc)?));
-    assert_eq!(rt; executor.next_inner(), None, "executed once");
+    assert_eq!(rt; executor.next_inner(), None);
     Ok(())
 }
 
 #[test]
-fn heard_of_first(rt: HostRuntime) -> Result<(), Fail> {
+fn its_own_partition_says_nothing(rt: HostRuntime) -> Result<(), Fail> {
+    let mut executor = that_declared(rt.alloc())?;
+    takes(&mut executor, &stable(1, 2))?;
+    assert_eq!(rt; executor.next_inner(), None);
+    Ok(())
+}
+
+#[test]
+fn executed_once_the_other_partition_is_heard(rt: HostRuntime) -> Result<(), Fail> {
     let alloc = rt.alloc();
-    let mut executor = executor(alloc, 2)?;
-    takes(&mut executor, &stable(2, 1))?;
-    takes(&mut executor, &committed(command_on_both(alloc)?))?;
-    takes(&mut executor, &promised(alloc, 1)?)?;
-    assert_eq!(rt; executor.next_inner(), None, "not stable here");
-    takes(&mut executor, &promised(alloc, 2)?)?;
-    assert!(rt; are_declarations(&fired(&mut executor, alloc)?));
+    let mut executor = that_declared(alloc)?;
+    takes(&mut executor, &stable(2, 3))?;
+    assert_eq!(rt; executor.next_inner(), Some(Inner::Execute(ID)));
     assert!(rt; is_one_result(&fired(&mut executor, alloc)?));
+    Ok(())
+}
+
+#[test]
+fn nothing_is_executed_that_was_heard_alone(rt: HostRuntime) -> Result<(), Fail> {
+    let mut executor = executor(rt.alloc(), 2)?;
+    takes(&mut executor, &stable(2, 1))?;
+    assert_eq!(rt; executor.next_inner(), None);
     Ok(())
 }
