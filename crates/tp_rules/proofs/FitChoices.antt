@@ -132,7 +132,7 @@ some_member shape home answers is some few are as_many =
 
 -- what is chosen
 
-greatest_by_low : (f : RecoveryAnswer → ℕ) (answers : List RecoveryAnswer) (n : ℕ) → Each (λ a. f a ≤ n) answers → greatest_by f answers ≤ n
+pub greatest_by_low : (f : RecoveryAnswer → ℕ) (answers : List RecoveryAnswer) (n : ℕ) → Each (λ a. f a ≤ n) answers → greatest_by f answers ≤ n
 greatest_by_low f [] n h = omega arith
 greatest_by_low f (a ∷ answers) n h = let rest = greatest_by_low f answers n h.1 in omega (arith, rest, h.0)
 
@@ -145,7 +145,7 @@ better_fit : (P : RecoveryAnswer → Type 0) (a : RecoveryAnswer) (found : Optio
 better_fit P a None h k = h
 better_fit P a (Some b) h k = cond_both (is_over a b) a b P (λ t. h) (λ f. k)
 
-best_fit : (P : RecoveryAnswer → Type 0) (found : Option RecoveryAnswer) (answers : List RecoveryAnswer) → IfAny P found → Each P answers
+pub best_fit : (P : RecoveryAnswer → Type 0) (found : Option RecoveryAnswer) (answers : List RecoveryAnswer) → IfAny P found → Each P answers
     → IfAny P (best_from found answers)
 best_fit P found [] h all = h
 best_fit P found (a ∷ answers) h all = best_fit P (Some (better a found)) answers (better_fit P a found all.0 h) all.1
