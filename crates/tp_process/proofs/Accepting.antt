@@ -12,6 +12,7 @@ use Rattle.tp_process.proofs.Learning.{changed}
 use Rattle.tp_process.proofs.LowStamps.{kept_low, with_accepted_low}
 use Rattle.tp_process.specs.Sheets.{ChangesSheet, sheet_at}
 use Rattle.tp_process.specs.State.{Agrees}
+use Rattle.tp_rules.specs.Addresses.{is_command_at}
 use Rattle.tp_rules.specs.Process.{LIMIT, Moved, ProcessState, accepted, on_consensus, with_sheet}
 use Rattle.tp_rules.specs.Sheet.{Sheet, can_accept, kept, with_accepted}
 use Rattle.tp_sheet.specs.SiteSheet.{SiteSheet, with_sheet as keeping}
@@ -41,12 +42,12 @@ module _ {S : Type 0} (shape : Shape) (site : Site) (clock told : ℕ) (pairs : 
   accepting b t k sheet = with_accepted b t (kept k sheet)
 
   -- the sheet of a command that is kept, with a stamp accepted
-  pub accepts_now : (new : IndexMap CommandId SiteSheet S) (copy : Command) (t b : ℕ) → copy ≡ c
+  pub accepts_now : (new : IndexMap CommandId SiteSheet S) (copy : Command) (t b : ℕ) → is_command_at shape site.partition.0 c ≡ true → copy ≡ c
       → ChangesSheet shape site sheets new copy.id (keeping (accepting b t copy (sheet_at shape site sheets copy.id).sheet) (sheet_at shape site sheets copy.id))
       → Agrees shape site clock told pairs new (with_sheet c.id (accepting b t c (s.sheets c.id)) s)
-  accepts_now new copy t b same change =
+  accepts_now new copy t b homed same change =
       let now : ChangesSheet shape site sheets new c.id (keeping (accepting b t c (sheet_at shape site sheets c.id).sheet) (sheet_at shape site sheets c.id)) =
       subst (λ (k : Command). ChangesSheet shape site sheets new k.id (keeping (accepting b t k (sheet_at shape site sheets k.id).sheet) (sheet_at shape site sheets k.id))) same change in
       changed shape site clock told pairs sheets new c.id _ (accepting b t c (s.sheets c.id)) s now
       (ap (λ (old : SiteSheet). keeping (accepting b t c old.sheet) old) (h.sheets_are c.id))
-      (with_accepted_low b t (kept c (s.sheets c.id)) (kept_low c (s.sheets c.id) (h.low c.id))) h
+      (with_accepted_low b t (kept c (s.sheets c.id)) (kept_low site.partition.0 c (s.sheets c.id) homed (h.low c.id))) h

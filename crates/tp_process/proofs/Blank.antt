@@ -1,12 +1,14 @@
 -- What the blank sheet says.
 use Rattle.std.proofs.Common.{◌≡◌, ℕ, zero, suc, Bool, true, false, Option, None, replicate, refl, ap, ◌∙◌, arith}
 use Rattle.std.proofs.lemmas.Bool.{and_parts, eqb-true, le-leb, ltb-true}
-use Rattle.std.specs.Prelude.{slice_get, ◌&&◌, ◌==◌, nat_lt}
+use Rattle.std.specs.Prelude.{slice_get, ◌&&◌, ◌==◌, nat_lt, not}
+use Rattle.tp_base.specs.declared.names.Made.TheVariants.{Proposal}
 use Rattle.tp_base.specs.declared.names.Site.{Site}
+use Rattle.tp_choice.specs.declared.answer.RecoveryAnswer.{RecoveryAnswer}
 use Rattle.tp_rules.specs.Addresses.{is_between}
-use Rattle.tp_rules.specs.Sheet.{blank, can_accept, is_fresh}
+use Rattle.tp_rules.specs.Sheet.{blank, can_accept, is_fresh, is_untouched, stamp_of}
 use Rattle.tp_rules.specs.Tables.{kept_at, flat}
-use Rattle.tp_sheet.specs.SiteSheet.{blank_at, takes_acknowledgement, choice_by, with_acknowledgement, takes_vote, decision_by, with_vote_of, final_of}
+use Rattle.tp_sheet.specs.SiteSheet.{blank_at, takes_acknowledgement, choice_by, with_acknowledgement, takes_vote, decision_by, with_vote_of, final_of, answer_of, ballot_by, with_try, takes_answer, recovery_by, with_answer_of}
 use Rattle.tp_topology.specs.Shape.{Shape}
 
 empty_place : (n i : ℕ) → flat (slice_get (replicate n (let none : Option ℕ = None in none)) i) ≡ None
@@ -67,3 +69,52 @@ blank-decision shape site rank b = rw (blank-takes_vote shape site rank b) refl
 
 pub blank-votes : (shape : Shape) (site : Site) (rank b : ℕ) → with_vote_of rank b (blank_at shape site) ≡ blank_at shape site
 blank-votes shape site rank b = rw (blank-takes_vote shape site rank b) refl
+
+pub blank-stamp : (shape : Shape) (q : ℕ) → stamp_of (blank shape) q ≡ None
+unfolding blank
+blank-stamp shape q = empty_table shape.partitions q
+
+pub blank-ballot : (shape : Shape) → (blank shape).ballot ≡ 0
+unfolding blank
+blank-ballot shape = refl
+
+pub blank-is_untouched : (shape : Shape) → is_untouched (blank shape) ≡ true
+unfolding blank
+blank-is_untouched shape = refl
+
+pub blank-told : (shape : Shape) (site : Site)
+    → answer_of (blank_at shape site) ≡ record { rank = site.rank; stamp = record { 0 = 0 }; made = Proposal; accepted = 0 }
+unfolding blank
+blank-told shape site = refl
+
+pub blank-recovers : (shape : Shape) (site : Site) → ballot_by (blank_at shape site) ≡ None
+unfolding blank
+blank-recovers shape site = refl
+
+pub blank-tries : (shape : Shape) (site : Site) → with_try (blank_at shape site) ≡ blank_at shape site
+unfolding blank
+blank-tries shape site = refl
+
+-- nothing is tried, and nothing is put, so no ballot is tried and not put
+no_try : (unknown : Bool) (b : ℕ) (unanswered counts : Bool) → (unknown && (0 == b) && not (0 == b) && unanswered) ≡ counts → counts ≡ false
+no_try unknown b unanswered false e = refl
+no_try unknown b unanswered true e =
+    let first = and_parts (unknown && (0 == b) && not (0 == b)) unanswered e in
+    let both = and_parts (unknown && (0 == b)) (not (0 == b)) first.0 in
+    let tried = (and_parts unknown (0 == b) both.0).1 in
+    absurd (both_ways (0 == b) tried both.1)
+  where
+    both_ways : (x : Bool) → x ≡ true → not x ≡ true → ⊥
+    both_ways true h k = cc
+    both_ways false h k = cc
+
+blank-takes_answer : (shape : Shape) (site : Site) (rank b : ℕ) → takes_answer rank b (blank_at shape site) ≡ false
+unfolding blank
+blank-takes_answer shape site rank b =
+    ap (λ (counts : Bool). is_between rank shape.replicas && counts) (no_try _ b _ _ refl) ∙ never (is_between rank shape.replicas)
+
+pub blank-recovery : (shape : Shape) (site : Site) (a : RecoveryAnswer) (b : ℕ) → recovery_by a b (blank_at shape site) ≡ None
+blank-recovery shape site a b = rw (blank-takes_answer shape site a.rank.0 b) refl
+
+pub blank-answers : (shape : Shape) (site : Site) (a : RecoveryAnswer) (b : ℕ) → with_answer_of a b (blank_at shape site) ≡ blank_at shape site
+blank-answers shape site a b = rw (blank-takes_answer shape site a.rank.0 b) refl

@@ -27,14 +27,14 @@ module _ {S : Type 0} (shape : Shape) (me : Site) (clock told : ℕ) (pairs : Li
   abbrev acked : Sheet
   acked = acknowledged rank t (s.sheets id)
 
-  low : IsLow acked
+  low : IsLow shape acked
   low = acknowledged_low rank t (s.sheets id) below (h.low id)
 
   by_sheet : (o : Option FastChoice) → choice_by rank t (sheet_at shape me sheets id) ≡ o → choice_by rank t (site_sheet shape me (s.sheets id)) ≡ o
   by_sheet o e = ap (λ (kept : SiteSheet). choice_by rank t kept) (sym (h.sheets_are id)) ∙ e
 
   -- what is kept now
-  keeps_now : (sheet : Sheet) → with_acknowledgement rank t (site_sheet shape me (s.sheets id)) ≡ site_sheet shape me sheet → IsLow sheet
+  keeps_now : (sheet : Sheet) → with_acknowledgement rank t (site_sheet shape me (s.sheets id)) ≡ site_sheet shape me sheet → IsLow shape sheet
       → Agrees shape me clock told pairs new (with_sheet id sheet s)
   keeps_now sheet is_kept is_low =
       changed shape me clock told pairs sheets new id (with_acknowledgement rank t (sheet_at shape me sheets id)) sheet s change

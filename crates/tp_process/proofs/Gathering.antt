@@ -101,7 +101,7 @@ module _ (shape : Shape) (me : Site) (rank t : ℕ) (id : CommandId) (s : Proces
   pub counted_fast : (top : Stamp) → choice_by rank t (site_sheet shape me sheet) ≡ Some (Fast top)
       → (counted shape me rank id t s ≡ decided shape me id top.0 acked s)
       × (with_acknowledgement rank t (site_sheet shape me sheet) ≡ site_sheet shape me acked)
-      × (IsLow acked → top.0 < LIMIT)
+      × (IsLow shape acked → top.0 < LIMIT)
   counted_fast top e =
       let all = fast_if shape me id sheet acked s (is_between rank shape.replicas) can (is_full shape acked) best top within e in
       (all.0, ap (λ (kept : Sheet). site_sheet shape me kept) all.1, λ low. top_low shape acked.acknowledged top low.acknowledged all.2)
@@ -109,7 +109,7 @@ module _ (shape : Shape) (me : Site) (rank t : ℕ) (id : CommandId) (s : Proces
   pub counted_slow : (top : Stamp) → choice_by rank t (site_sheet shape me sheet) ≡ Some (Slow top)
       → (counted shape me rank id t s ≡ (with_sheet id (putting shape me.rank.0 top.0 acked) s, put_to_vote shape me me.rank.0 top.0 acked.command))
       × (with_acknowledgement rank t (site_sheet shape me sheet) ≡ site_sheet shape me (putting shape me.rank.0 top.0 acked))
-      × (IsLow acked → top.0 < LIMIT)
+      × (IsLow shape acked → top.0 < LIMIT)
   counted_slow top e =
       let all = slow_if shape me id sheet acked s (is_between rank shape.replicas) can (is_full shape acked) best top within e in
       (all.0, ap (λ (kept : Sheet). site_sheet shape me kept) all.1, λ low. slow_top_low shape acked.acknowledged top low.acknowledged all.2)

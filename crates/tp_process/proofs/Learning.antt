@@ -27,7 +27,7 @@ module _ {S : Type 0} (shape : Shape) (site : Site) (clock told : ℕ) (pairs : 
 
   -- one command's sheet is another one
   pub changed : (new : IndexMap CommandId SiteSheet S) (id : CommandId) (kept : SiteSheet) (sheet : Sheet) (s : ProcessState)
-      → ChangesSheet shape site sheets new id kept → kept ≡ site_sheet shape site sheet → IsLow sheet
+      → ChangesSheet shape site sheets new id kept → kept ≡ site_sheet shape site sheet → IsLow shape sheet
       → Agrees shape site clock told pairs sheets s → Agrees shape site clock told pairs new (with_sheet id sheet s)
   changed new id kept sheet s change is_kept low h = record {
     clock_is = h.clock_is;
@@ -44,7 +44,7 @@ module _ {S : Type 0} (shape : Shape) (site : Site) (clock told : ℕ) (pairs : 
       there other true e = subst (λ (x : CommandId). sheet_at shape site new x ≡ site_sheet shape site sheet) (same_id_is id other e) (change.here ∙ is_kept)
       there other false e = change.others other e ∙ h.sheets_are other
 
-      low_there : (other : CommandId) (b : Bool) → IsLow (cond b sheet (s.sheets other))
+      low_there : (other : CommandId) (b : Bool) → IsLow shape (cond b sheet (s.sheets other))
       low_there other true = low
       low_there other false = h.low other
 
@@ -60,7 +60,7 @@ module _ {S : Type 0} (shape : Shape) (site : Site) (clock told : ℕ) (pairs : 
     told_low = h.told_low;
     room = h.room;
     sheets_are = λ other. h.sheets_are other ∙ ap (λ (kept : Sheet). site_sheet shape site kept) (once other (same_id id other));
-    low = λ other. subst IsLow (once other (same_id id other)) (h.low other);
+    low = λ other. subst (IsLow shape) (once other (same_id id other)) (h.low other);
   }
     where
       once : (other : CommandId) (b : Bool) → cond b sheet (cond b old (s.sheets other)) ≡ cond b sheet (s.sheets other)
@@ -78,7 +78,7 @@ module _ {S : Type 0} (shape : Shape) (site : Site) (clock told : ℕ) (pairs : 
     told_low = h.told_low;
     room = h.room;
     sheets_are = λ other. h.sheets_are other ∙ ap (λ (kept : Sheet). site_sheet shape site kept) (same other (same_id id other) refl);
-    low = λ other. subst IsLow (same other (same_id id other) refl) (h.low other);
+    low = λ other. subst (IsLow shape) (same other (same_id id other) refl) (h.low other);
   }
     where
       same : (other : CommandId) (b : Bool) → same_id id other ≡ b → cond b (s.sheets id) (s.sheets other) ≡ s.sheets other
@@ -89,10 +89,10 @@ module _ {S : Type 0} (shape : Shape) (site : Site) (clock told : ℕ) (pairs : 
 abbrev pub known_sheet : ℕ → ℕ → Sheet → Sheet
 known_sheet q t sheet = cond (is_some (stamp_of sheet q)) sheet (with_stamp q t sheet)
 
-pub known_low : (q t : ℕ) (sheet : Sheet) → t < LIMIT → IsLow sheet → IsLow (known_sheet q t sheet)
-known_low q t sheet lt h = go (is_some (stamp_of sheet q))
+pub known_low : {shape : Shape} (q t : ℕ) (sheet : Sheet) → t < LIMIT → IsLow shape sheet → IsLow shape (known_sheet q t sheet)
+known_low {shape} q t sheet lt h = go (is_some (stamp_of sheet q))
   where
-    go : (b : Bool) → IsLow (cond b sheet (with_stamp q t sheet))
+    go : (b : Bool) → IsLow shape (cond b sheet (with_stamp q t sheet))
     go true = h
     go false = with_stamp_low q t sheet lt h
 
@@ -140,7 +140,7 @@ learned_some shape site id q t n sheet s e = go (is_some (stamp_of sheet q)) e
     go false e = finished_some shape site id known known.command n s e
 
 -- the final stamp is below the limit
-pub final_by_low : (shape : Shape) (site : Site) (q t n : ℕ) (sheet : Sheet) → t < LIMIT → IsLow sheet → final_by q t (site_sheet shape site sheet) ≡ Some n → n < LIMIT
+pub final_by_low : (shape : Shape) (site : Site) (q t n : ℕ) (sheet : Sheet) → t < LIMIT → IsLow shape sheet → final_by q t (site_sheet shape site sheet) ≡ Some n → n < LIMIT
 final_by_low shape site q t n sheet lt h e = go (is_some (stamp_of sheet q)) e
   where
     known : Sheet
@@ -157,8 +157,8 @@ module _ {S : Type 0} (shape : Shape) (site : Site) (clock told : ℕ) (pairs : 
   here : sheet_at shape site sheets id ≡ site_sheet shape site sheet
   here = sheet_here shape site clock told pairs sheets id sheet s h
 
-  low_here : IsLow sheet
-  low_here = subst IsLow (cond-true (same_id id id) sheet (s.sheets id) (same_id_refl id)) (h.low id)
+  low_here : IsLow shape sheet
+  low_here = subst (IsLow shape) (cond-true (same_id id id) sheet (s.sheets id) (same_id_refl id)) (h.low id)
 
   -- the stamp is kept in the sheet
   pub knows : Agrees shape site clock told pairs new (with_sheet id (known_sheet q t sheet) s)

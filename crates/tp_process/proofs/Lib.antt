@@ -11,3 +11,5 @@ pub mod Outcomes
 pub mod Unheeded
 pub mod Accepting
 pub mod Voting
+mod Answering
+mod Recovering

@@ -1,14 +1,24 @@
 -- Stamps below the limit, in the tables of a sheet.
-use Rattle.std.proofs.Common.{◌≡◌, ℕ, zero, suc, ◌<◌, ◌⊎◌, inl, inr, List, [], ◌∷◌, map, max, replicate, set, Option, Some, None, is_some, refl, sym, subst, arith}
-use Rattle.std.specs.Prelude.{slice_get}
-use Rattle.std.specs.List.{list_all}
+use Rattle.std.proofs.Common.{◌≡◌, ℕ, zero, suc, ◌-◌, ◌<◌, ◌≤◌, ◌⊎◌, inl, inr, true, List, [], ◌∷◌, map, max, replicate, set, Option, Some, None, is_some, refl, sym, subst, arith}
+use Rattle.std.specs.Prelude.{nat_lt, slice_get, unwrap_or}
+use Rattle.std.specs.List.{list_all, list_any}
+use Rattle.std.proofs.lemmas.Bool.{and_parts, cond_both}
 use Rattle.std.proofs.lemmas.Option.{cond_some}
+use Rattle.tp_base.proofs.Each.{each_weaker}
+use Rattle.tp_base.specs.Lists.{Each}
+use Rattle.tp_base.specs.declared.names.Made.{Made}
+use Rattle.tp_choice.specs.Choosing.{best_from, chosen_of_proposals, chosen_with, greatest_by, is_member, member_stamp, recovery_choice, tells_slow}
+use Rattle.tp_choice.specs.declared.answer.RecoveryAnswer.{RecoveryAnswer}
+use Rattle.tp_ops.specs.Parts.{is_accessed}
 use Rattle.tp_ops.specs.declared.command.Command.{Command}
-use Rattle.tp_process.specs.State.{AreLow, IsLow}
+use Rattle.tp_process.specs.State.{AreLow, IsHomed, IsLow, IsLowAnswer}
 use Rattle.tp_quorum.specs.Choice.{greatest, present}
-use Rattle.tp_rules.specs.Addresses.{accessed}
+use Rattle.tp_rules.proofs.FitChoices.{best_fit, greatest_by_low}
+use Rattle.tp_rules.proofs.FitStamps.{with_fit}
+use Rattle.tp_rules.proofs.Selections.{IfAny, each_replicate}
+use Rattle.tp_rules.specs.Addresses.{accessed, is_between, is_command_at}
 use Rattle.tp_rules.specs.Process.{LIMIT}
-use Rattle.tp_rules.specs.Sheet.{Sheet, acknowledged, blank, final_stamp, kept, putting, stamps_of, with_accepted, with_stamp, with_vote}
+use Rattle.tp_rules.specs.Sheet.{Sheet, acknowledged, blank, final_stamp, kept, putting, stamps_of, trying, with_accepted, with_answer, with_ballot, with_proposal, with_stamp, with_vote}
 use Rattle.tp_rules.specs.Tables.{flat, kept_at, with_nth}
 use Rattle.tp_topology.specs.Shape.{Shape}
 
@@ -61,32 +71,126 @@ greatest_low (None ∷ table) h = greatest_low table h
 greatest_low (Some t ∷ table) h = max_low t (greatest (present table)) h.0 (greatest_low table h.1)
 
 -- the final stamp is below the limit
-pub final_low : (shape : Shape) (sheet : Sheet) (o : Option Command) (n : ℕ) → IsLow sheet → final_stamp shape sheet o ≡ Some n → n < LIMIT
+pub final_low : (shape : Shape) (sheet : Sheet) (o : Option Command) (n : ℕ) → IsLow shape sheet → final_stamp shape sheet o ≡ Some n → n < LIMIT
 final_low shape sheet None n h e = absurd cc
 final_low shape sheet (Some c) n h e =
     let stamps = stamps_of shape sheet c in
     subst (λ (m : ℕ). m < LIMIT) (cond_some (list_all is_some stamps) (greatest (present stamps)) n e).1
     (greatest_low stamps (low_map sheet.known (accessed shape c) h.known))
 
-pub blank_low : (shape : Shape) → IsLow (blank shape)
+pub blank_low : (shape : Shape) → IsLow shape (blank shape)
 unfolding blank
-blank_low shape = record { known = low_none shape.partitions; acknowledged = low_none shape.replicas; put = omega arith }
+blank_low shape = record {
+  home = tt;
+  known = low_none shape.partitions;
+  acknowledged = low_none shape.replicas;
+  put = omega arith;
+  answers = each_replicate IsLowAnswer shape.replicas None tt;
+}
 
-pub kept_low : (c : Command) (sheet : Sheet) → IsLow sheet → IsLow (kept c sheet)
-kept_low c sheet h = record { known = h.known; acknowledged = h.acknowledged; put = h.put }
+kept_homed : (shape : Shape) (c : Command) (o : Option Command) → is_between c.home.0 shape.replicas ≡ true → IsHomed shape o → IsHomed shape (Some (unwrap_or o c))
+kept_homed shape c None here h = here
+kept_homed shape c (Some d) here h = h
 
-pub with_stamp_low : (q t : ℕ) (sheet : Sheet) → t < LIMIT → IsLow sheet → IsLow (with_stamp q t sheet)
-with_stamp_low q t sheet lt h = record { known = low_nth sheet.known q t lt h.known; acknowledged = h.acknowledged; put = h.put }
+-- a command with its home in the shape, on a partition
+pub kept_low : {shape : Shape} (p : ℕ) (c : Command) (sheet : Sheet) → is_command_at shape p c ≡ true → IsLow shape sheet → IsLow shape (kept c sheet)
+kept_low {shape} p c sheet here h = record {
+  home = kept_homed shape c sheet.command (and_parts (is_between c.home.0 shape.replicas) (is_accessed shape.partitions c p) here).0 h.home;
+  known = h.known;
+  acknowledged = h.acknowledged;
+  put = h.put;
+  answers = h.answers;
+}
 
-pub acknowledged_low : (rank t : ℕ) (sheet : Sheet) → t < LIMIT → IsLow sheet → IsLow (acknowledged rank t sheet)
-acknowledged_low rank t sheet lt h =
-    record { known = h.known; acknowledged = low_nth sheet.acknowledged rank t lt h.acknowledged; put = h.put }
+pub with_stamp_low : {shape : Shape} (q t : ℕ) (sheet : Sheet) → t < LIMIT → IsLow shape sheet → IsLow shape (with_stamp q t sheet)
+with_stamp_low q t sheet lt h = record {
+  home = h.home;
+  known = low_nth sheet.known q t lt h.known;
+  acknowledged = h.acknowledged;
+  put = h.put;
+  answers = h.answers;
+}
 
-pub putting_low : (shape : Shape) (b t : ℕ) (sheet : Sheet) → t < LIMIT → IsLow sheet → IsLow (putting shape b t sheet)
-putting_low shape b t sheet lt h = record { known = h.known; acknowledged = h.acknowledged; put = lt }
+pub acknowledged_low : {shape : Shape} (rank t : ℕ) (sheet : Sheet) → t < LIMIT → IsLow shape sheet → IsLow shape (acknowledged rank t sheet)
+acknowledged_low rank t sheet lt h = record {
+  home = h.home;
+  known = h.known;
+  acknowledged = low_nth sheet.acknowledged rank t lt h.acknowledged;
+  put = h.put;
+  answers = h.answers;
+}
 
-pub with_accepted_low : (b t : ℕ) (sheet : Sheet) → IsLow sheet → IsLow (with_accepted b t sheet)
-with_accepted_low b t sheet h = record { known = h.known; acknowledged = h.acknowledged; put = h.put }
+pub putting_low : (shape : Shape) (b t : ℕ) (sheet : Sheet) → t < LIMIT → IsLow shape sheet → IsLow shape (putting shape b t sheet)
+putting_low shape b t sheet lt h =
+    record { home = h.home; known = h.known; acknowledged = h.acknowledged; put = lt; answers = h.answers }
 
-pub with_vote_low : (rank : ℕ) (sheet : Sheet) → IsLow sheet → IsLow (with_vote rank sheet)
-with_vote_low rank sheet h = record { known = h.known; acknowledged = h.acknowledged; put = h.put }
+pub with_accepted_low : {shape : Shape} (b t : ℕ) (sheet : Sheet) → IsLow shape sheet → IsLow shape (with_accepted b t sheet)
+with_accepted_low b t sheet h =
+    record { home = h.home; known = h.known; acknowledged = h.acknowledged; put = h.put; answers = h.answers }
+
+pub with_vote_low : {shape : Shape} (rank : ℕ) (sheet : Sheet) → IsLow shape sheet → IsLow shape (with_vote rank sheet)
+with_vote_low rank sheet h =
+    record { home = h.home; known = h.known; acknowledged = h.acknowledged; put = h.put; answers = h.answers }
+
+pub with_proposal_low : {shape : Shape} (t : ℕ) (made : Made) (sheet : Sheet) → IsLow shape sheet → IsLow shape (with_proposal t made sheet)
+with_proposal_low t made sheet h =
+    record { home = h.home; known = h.known; acknowledged = h.acknowledged; put = h.put; answers = h.answers }
+
+pub with_ballot_low : {shape : Shape} (b : ℕ) (sheet : Sheet) → IsLow shape sheet → IsLow shape (with_ballot b sheet)
+with_ballot_low b sheet h =
+    record { home = h.home; known = h.known; acknowledged = h.acknowledged; put = h.put; answers = h.answers }
+
+pub trying_low : (shape : Shape) (b : ℕ) (sheet : Sheet) → IsLow shape sheet → IsLow shape (trying shape b sheet)
+trying_low shape b sheet h = record {
+  home = h.home;
+  known = h.known;
+  acknowledged = h.acknowledged;
+  put = h.put;
+  answers = each_replicate IsLowAnswer shape.replicas None tt;
+}
+
+pub with_answer_low : {shape : Shape} (a : RecoveryAnswer) (sheet : Sheet) → a.stamp.0 < LIMIT → IsLow shape sheet → IsLow shape (with_answer a sheet)
+with_answer_low a sheet lt h = record {
+  home = h.home;
+  known = h.known;
+  acknowledged = h.acknowledged;
+  put = h.put;
+  answers = with_fit IsLowAnswer sheet.answers a.rank.0 (Some a) h.answers lt;
+}
+
+-- what is chosen from answers
+
+abbrev IsLowStamp : RecoveryAnswer → Type 0
+IsLowStamp a = a.stamp.0 < LIMIT
+
+present_low : (table : List (Option RecoveryAnswer)) → Each IsLowAnswer table → Each IsLowStamp (present table)
+present_low [] h = tt
+present_low (None ∷ table) h = present_low table h.1
+present_low (Some a ∷ table) h = (h.0, present_low table h.1)
+
+member_low : (shape : Shape) (home : ℕ) (a : RecoveryAnswer) → IsLowStamp a → member_stamp shape home a ≤ LIMIT - 1
+member_low shape home a lt =
+    cond_both (is_member shape home a) a.stamp.0 0 (λ (n : ℕ). n ≤ LIMIT - 1) (λ t. omega (arith, lt)) (λ f. omega arith)
+
+proposals_low : (shape : Shape) (home : ℕ) (answers : List RecoveryAnswer) → Each IsLowStamp answers → chosen_of_proposals shape home answers < LIMIT
+proposals_low shape home answers h =
+    let all : greatest_by (λ a. a.stamp.0) answers ≤ LIMIT - 1 = greatest_by_low (λ a. a.stamp.0) answers (LIMIT - 1)
+    (each_weaker IsLowStamp (λ a. a.stamp.0 ≤ LIMIT - 1) (λ a lt. omega (arith, lt)) answers h) in
+    let members : greatest_by (member_stamp shape home) answers ≤ LIMIT - 1 = greatest_by_low (member_stamp shape home) answers (LIMIT - 1)
+    (each_weaker IsLowStamp (λ a. member_stamp shape home a ≤ LIMIT - 1) (λ a lt. member_low shape home a lt) answers h) in
+    cond_both (list_any (tells_slow shape home) answers) (greatest_by (λ a. a.stamp.0) answers) (greatest_by (member_stamp shape home) answers)
+    (λ (n : ℕ). n < LIMIT) (λ t. omega (arith, all)) (λ f. omega (arith, members))
+
+chosen_low : (shape : Shape) (home : ℕ) (answers : List RecoveryAnswer) (best : Option RecoveryAnswer) → Each IsLowStamp answers → IfAny IsLowStamp best
+    → chosen_with shape home answers best < LIMIT
+chosen_low shape home answers None h low = proposals_low shape home answers h
+chosen_low shape home answers (Some best) h low =
+    cond_both (nat_lt 0 best.accepted) best.stamp.0 (chosen_of_proposals shape home answers) (λ (n : ℕ). n < LIMIT)
+    (λ t. low) (λ f. proposals_low shape home answers h)
+
+pub recovery_low : (shape : Shape) (home : ℕ) (table : List (Option RecoveryAnswer)) → Each IsLowAnswer table
+    → recovery_choice shape home (present table) < LIMIT
+unfolding recovery_choice
+recovery_low shape home table h =
+    let low : Each IsLowStamp (present table) = present_low table h in
+    chosen_low shape home (present table) (best_from None (present table)) low (best_fit IsLowStamp None (present table) tt low)

@@ -11,22 +11,23 @@ use Rattle.tp_base.specs.declared.names.Pair.{Pair}
 use Rattle.tp_base.specs.declared.names.Site.{Site}
 use Rattle.tp_ops.specs.declared.command.Command.{Command}
 use Rattle.tp_process.proofs.Learning.{changed}
-use Rattle.tp_process.proofs.LowStamps.{acknowledged_low, kept_low, max_cases}
+use Rattle.tp_process.proofs.LowStamps.{acknowledged_low, kept_low, max_cases, with_proposal_low}
 use Rattle.tp_process.proofs.Unheeded.{both_same}
 use Rattle.tp_process.specs.Sheets.{ChangesSheet, sheet_at}
 use Rattle.tp_process.specs.State.{Agrees, IsLow}
+use Rattle.tp_rules.specs.Addresses.{is_command_at}
 use Rattle.tp_rules.specs.Process.{LIMIT, Moved, ProcessState, next_stamp, on_propose, on_submit, proposed, submitted, with_room, with_sheet}
 use Rattle.tp_rules.specs.Sheet.{Sheet, acknowledged, acknowledged_own, can_acknowledge, is_fresh, kept, ring_setting, with_proposal}
 use Rattle.tp_sheet.specs.SiteSheet.{SiteSheet, with_own, with_sheet as keeping}
 use Rattle.tp_topology.specs.Shape.{Shape}
 
 -- a step that is taken where a test passes, and has room where another one does
-room_taken : (s : ProcessState) (moved : Moved) (b r : Bool) → (b && r) ≡ true → nat_lt moved.0.clock LIMIT ≡ r → with_room s (cond {A = Moved} b moved (s, [])) ≡ moved
+pub room_taken : (s : ProcessState) (moved : Moved) (b r : Bool) → (b && r) ≡ true → nat_lt moved.0.clock LIMIT ≡ r → with_room s (cond {A = Moved} b moved (s, [])) ≡ moved
 room_taken s moved true true e room = cond-true {A = Moved} (nat_lt moved.0.clock LIMIT) moved (s, []) room
 room_taken s moved true false e room = absurd cc
 room_taken s moved false r e room = absurd cc
 
-room_refused : (s : ProcessState) (moved : Moved) (b r : Bool) → (b && r) ≡ false → nat_lt moved.0.clock LIMIT ≡ r → with_room s (cond {A = Moved} b moved (s, [])) ≡ (s, [])
+pub room_refused : (s : ProcessState) (moved : Moved) (b r : Bool) → (b && r) ≡ false → nat_lt moved.0.clock LIMIT ≡ r → with_room s (cond {A = Moved} b moved (s, [])) ≡ (s, [])
 room_refused s moved true true e room = absurd cc
 room_refused s moved true false e room = cond-false {A = Moved} (nat_lt moved.0.clock LIMIT) moved (s, []) room
 room_refused s moved false r e room = both_same {X = Moved} (nat_lt s.clock LIMIT) (s, [])
@@ -35,7 +36,7 @@ and_three : (a b c : Bool) → (a && (b && c)) ≡ ((a && b) && c)
 and_three true b c = refl
 and_three false b c = refl
 
-later : (floor clock : ℕ) → clock < proposed_stamp floor clock
+pub later : (floor clock : ℕ) → clock < proposed_stamp floor clock
 later floor clock = elim (max_cases floor (clock + 1)) [
   | inl e ↦ let low : clock + 1 ≤ max floor (clock + 1) = at_least floor (clock + 1) in omega (arith, low)
   | inr e ↦ omega (arith, e)
@@ -45,7 +46,7 @@ later floor clock = elim (max_cases floor (clock + 1)) [
     at_least m n = grind arith
 
 -- a proposal's stamp is below the limit just where the clock is below the last number under it
-stamp_low : (floor clock : ℕ) → floor < LIMIT → nat_lt clock (LIMIT - 1) ≡ true → proposed_stamp floor clock < LIMIT
+pub stamp_low : (floor clock : ℕ) → floor < LIMIT → nat_lt clock (LIMIT - 1) ≡ true → proposed_stamp floor clock < LIMIT
 stamp_low floor clock low room = elim (max_cases floor (clock + 1)) [
   | inl e ↦ omega (arith, e, low)
   | inr e ↦ let under = ltb-true clock (LIMIT - 1) room in omega (arith, e, under)
@@ -57,7 +58,7 @@ stamp_high floor clock full =
     let more = later floor clock in
     omega (arith, over, more)
 
-same_room : (floor clock : ℕ) → floor < LIMIT → nat_lt (proposed_stamp floor clock) LIMIT ≡ nat_lt clock (LIMIT - 1)
+pub same_room : (floor clock : ℕ) → floor < LIMIT → nat_lt (proposed_stamp floor clock) LIMIT ≡ nat_lt clock (LIMIT - 1)
 same_room floor clock low = go (nat_lt clock (LIMIT - 1)) refl
   where
     go : (b : Bool) → nat_lt clock (LIMIT - 1) ≡ b → nat_lt (proposed_stamp floor clock) LIMIT ≡ b
@@ -114,45 +115,45 @@ module _ {S : Type 0} (shape : Shape) (site : Site) (clock told : ℕ) (pairs : 
       ∙ ap (λ (n : ℕ). proposed (ring_setting shape) site from c n (s.sheets c.id) s) (ap (λ (n : ℕ). proposed_stamp floor n) (sym h.clock_is) ∙ sym is_stamp)
 
   -- the sheet of a command that is kept, with the own proposal, and acknowledged at its home
-  pub keeps : (new : IndexMap CommandId SiteSheet S) (copy : Command) → copy ≡ c
+  pub keeps : (new : IndexMap CommandId SiteSheet S) (copy : Command) → is_command_at shape site.partition.0 c ≡ true → copy ≡ c
       → ChangesSheet shape site sheets new copy.id (keeping (kept copy (sheet_at shape site sheets copy.id).sheet) (sheet_at shape site sheets copy.id))
       → Agrees shape site clock told pairs new (with_sheet c.id (kept c (s.sheets c.id)) s)
-  keeps new copy same change =
+  keeps new copy homed same change =
       let now : ChangesSheet shape site sheets new c.id (keeping (kept c (sheet_at shape site sheets c.id).sheet) (sheet_at shape site sheets c.id)) =
       subst (λ (k : Command). ChangesSheet shape site sheets new k.id (keeping (kept k (sheet_at shape site sheets k.id).sheet) (sheet_at shape site sheets k.id))) same change in
       changed shape site clock told pairs sheets new c.id _ (kept c (s.sheets c.id)) s now
-      (ap (λ (old : SiteSheet). keeping (kept c old.sheet) old) (h.sheets_are c.id)) (kept_low c (s.sheets c.id) (h.low c.id)) h
+      (ap (λ (old : SiteSheet). keeping (kept c old.sheet) old) (h.sheets_are c.id)) (kept_low site.partition.0 c (s.sheets c.id) homed (h.low c.id)) h
 
   abbrev pub with_own_proposal : ℕ → Command → Sheet → Sheet
   with_own_proposal t k sheet = with_proposal t Proposal (kept k sheet)
 
-  proposal_low : (t : ℕ) (sheet : Sheet) → IsLow sheet → IsLow (with_own_proposal t c sheet)
-  proposal_low t sheet low = record { known = low.known; acknowledged = low.acknowledged; put = low.put }
+  proposal_low : (t : ℕ) (sheet : Sheet) → is_command_at shape site.partition.0 c ≡ true → IsLow shape sheet → IsLow shape (with_own_proposal t c sheet)
+  proposal_low t sheet homed low = with_proposal_low t Proposal (kept c sheet) (kept_low site.partition.0 c sheet homed low)
 
-  pub proposes_now : (new : IndexMap CommandId SiteSheet S) (copy : Command) (t : ℕ) → copy ≡ c
+  pub proposes_now : (new : IndexMap CommandId SiteSheet S) (copy : Command) (t : ℕ) → is_command_at shape site.partition.0 c ≡ true → copy ≡ c
       → ChangesSheet shape site sheets new copy.id (keeping (with_own_proposal t copy (sheet_at shape site sheets copy.id).sheet) (sheet_at shape site sheets copy.id))
       → Agrees shape site clock told pairs new (with_sheet c.id (with_own_proposal t c (s.sheets c.id)) s)
-  proposes_now new copy t same change =
+  proposes_now new copy t homed same change =
       let now : ChangesSheet shape site sheets new c.id (keeping (with_own_proposal t c (sheet_at shape site sheets c.id).sheet) (sheet_at shape site sheets c.id)) =
       subst (λ (k : Command). ChangesSheet shape site sheets new k.id (keeping (with_own_proposal t k (sheet_at shape site sheets k.id).sheet) (sheet_at shape site sheets k.id))) same change in
       changed shape site clock told pairs sheets new c.id _ (with_own_proposal t c (s.sheets c.id)) s now
-      (ap (λ (old : SiteSheet). keeping (with_own_proposal t c old.sheet) old) (h.sheets_are c.id)) (proposal_low t (s.sheets c.id) (h.low c.id)) h
+      (ap (λ (old : SiteSheet). keeping (with_own_proposal t c old.sheet) old) (h.sheets_are c.id)) (proposal_low t (s.sheets c.id) homed (h.low c.id)) h
 
   abbrev own_sheet : ℕ → Sheet
   own_sheet t = acknowledged_own (ring_setting shape) site.partition.0 site.rank.0 t (with_own_proposal t c (s.sheets c.id))
 
-  own_low : (t : ℕ) → t < LIMIT → IsLow (own_sheet t)
-  own_low t lt =
+  own_low : (t : ℕ) → is_command_at shape site.partition.0 c ≡ true → t < LIMIT → IsLow shape (own_sheet t)
+  own_low t homed lt =
       let sheet = with_own_proposal t c (s.sheets c.id) in
-      let low = proposal_low t (s.sheets c.id) (h.low c.id) in
-      cond_both (can_acknowledge (ring_setting shape) site.partition.0 site.rank.0 site.rank.0 sheet) (acknowledged site.rank.0 t sheet) sheet IsLow
+      let low = proposal_low t (s.sheets c.id) homed (h.low c.id) in
+      cond_both (can_acknowledge (ring_setting shape) site.partition.0 site.rank.0 site.rank.0 sheet) (acknowledged site.rank.0 t sheet) sheet (IsLow shape)
       (λ yes_it_can. acknowledged_low site.rank.0 t sheet lt low) (λ it_cannot. low)
 
-  pub submits_now : (new : IndexMap CommandId SiteSheet S) (copy : Command) (t : ℕ) → copy ≡ c → t < LIMIT
+  pub submits_now : (new : IndexMap CommandId SiteSheet S) (copy : Command) (t : ℕ) → is_command_at shape site.partition.0 c ≡ true → copy ≡ c → t < LIMIT
       → ChangesSheet shape site sheets new copy.id (with_own t (keeping (with_own_proposal t copy (sheet_at shape site sheets copy.id).sheet) (sheet_at shape site sheets copy.id)))
       → Agrees shape site clock told pairs new (with_sheet c.id (own_sheet t) s)
-  submits_now new copy t same lt change =
+  submits_now new copy t homed same lt change =
       let now : ChangesSheet shape site sheets new c.id (with_own t (keeping (with_own_proposal t c (sheet_at shape site sheets c.id).sheet) (sheet_at shape site sheets c.id))) =
       subst (λ (k : Command). ChangesSheet shape site sheets new k.id (with_own t (keeping (with_own_proposal t k (sheet_at shape site sheets k.id).sheet) (sheet_at shape site sheets k.id)))) same change in
       changed shape site clock told pairs sheets new c.id _ (own_sheet t) s now
-      (ap (λ (old : SiteSheet). with_own t (keeping (with_own_proposal t c old.sheet) old)) (h.sheets_are c.id)) (own_low t lt) h
+      (ap (λ (old : SiteSheet). with_own t (keeping (with_own_proposal t c old.sheet) old)) (h.sheets_are c.id)) (own_low t homed lt) h

@@ -56,14 +56,14 @@ module _ {S : Type 0} (shape : Shape) (me : Site) (clock told : ℕ) (pairs : Li
   abbrev can : Bool
   can = can_vote me.partition.0 b old
 
-  low : IsLow votes
+  low : IsLow shape votes
   low = with_vote_low rank old (h.low id)
 
   by_sheet : (o : Option ℕ) → decision_by rank b (sheet_at shape me sheets id) ≡ o → decision_by rank b (site_sheet shape me old) ≡ o
   by_sheet o e = ap (λ (kept : SiteSheet). decision_by rank b kept) (sym (h.sheets_are id)) ∙ e
 
   -- what is kept now
-  keeps_now : (sheet : Sheet) → with_vote_of rank b (site_sheet shape me old) ≡ site_sheet shape me sheet → IsLow sheet
+  keeps_now : (sheet : Sheet) → with_vote_of rank b (site_sheet shape me old) ≡ site_sheet shape me sheet → IsLow shape sheet
       → Agrees shape me clock told pairs new (with_sheet id sheet s)
   keeps_now sheet is_kept is_low =
       changed shape me clock told pairs sheets new id (with_vote_of rank b (sheet_at shape me sheets id)) sheet s change

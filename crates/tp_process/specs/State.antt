@@ -1,16 +1,17 @@
 -- What it is for a process to be where the rules leave it.
-use Rattle.std.specs.Prelude.{◌≡◌, ◌≤◌, ◌<◌, ◌-◌, ◌==◌, ◌&&◌, ℕ, nat_lt, Bool, List, [], ◌∷◌, Option, Some, None}
+use Rattle.std.specs.Prelude.{◌≡◌, ◌≤◌, ◌<◌, ◌-◌, ◌==◌, ◌&&◌, ℕ, nat_lt, true, Bool, List, [], ◌∷◌, Option, Some, None}
 use Rattle.indexmap.specs.IndexMap.{IndexMap}
 use Rattle.tp_base.specs.Lists.{Each}
 use Rattle.tp_base.specs.declared.names.ActorName.TheVariants.{Process as OfProcess, Executor as OfExecutor}
 use Rattle.tp_base.specs.declared.names.CommandId.{CommandId}
 use Rattle.tp_base.specs.declared.names.Pair.{Pair}
 use Rattle.tp_base.specs.declared.names.Site.{Site}
+use Rattle.tp_choice.specs.declared.answer.RecoveryAnswer.{RecoveryAnswer}
 use Rattle.tp_ops.specs.declared.command.Command.{Command}
 use Rattle.tp_process.specs.Sheets.{sheet_at}
 use Rattle.tp_process.specs.declared.process.Process.{Process}
 use Rattle.tp_rules.specs.Acts.{Act, Identity, ProcessAt}
-use Rattle.tp_rules.specs.Addresses.{message}
+use Rattle.tp_rules.specs.Addresses.{is_between, message}
 use Rattle.tp_rules.specs.Process.{LIMIT, ProcessState, state_after, untold}
 use Rattle.tp_rules.specs.Sheet.{Sheet, can_accept, is_fresh, ring_setting}
 use Rattle.tp_sheet.specs.SiteSheet.{SiteSheet}
@@ -27,10 +28,23 @@ AreLow [] = Unit {0}
 AreLow (None ∷ table) = AreLow table
 AreLow (Some t ∷ table) = (t < LIMIT) × AreLow table
 
-pub record IsLow (sheet : Sheet) : Type 0 where
+-- an answer's stamp, if any, is below the limit
+abbrev pub IsLowAnswer : Option RecoveryAnswer → Type 0
+IsLowAnswer None = Unit {0}
+IsLowAnswer (Some a) = a.stamp.0 < LIMIT
+
+-- a command's home, if any, is a rank of the shape
+abbrev pub IsHomed : Shape → Option Command → Type 0
+IsHomed shape None = Unit {0}
+IsHomed shape (Some c) = is_between c.home.0 shape.replicas ≡ true
+
+-- what is kept of a command whose home is in the shape
+pub record IsLow (shape : Shape) (sheet : Sheet) : Type 0 where
+  pub home : IsHomed shape sheet.command
   pub known : AreLow sheet.known
   pub acknowledged : AreLow sheet.acknowledged
   pub put : sheet.putting_stamp < LIMIT
+  pub answers : Each IsLowAnswer sheet.answers
 
 abbrev pub site_sheet : Shape → Site → Sheet → SiteSheet
 site_sheet shape site sheet = record { shape = shape; site = site; sheet = sheet }
@@ -45,7 +59,7 @@ pub record Agrees {S : Type 0} (shape : Shape) (site : Site) (clock told : ℕ) 
   pub told_low : s.told ≤ s.clock
   pub room : s.clock < LIMIT
   pub sheets_are : (id : CommandId) → sheet_at shape site sheets id ≡ site_sheet shape site (s.sheets id)
-  pub low : (id : CommandId) → IsLow (s.sheets id)
+  pub low : (id : CommandId) → IsLow shape (s.sheets id)
 
 -- the process has what the state says
 abbrev pub IsState : Process → ProcessState → Type 0
@@ -68,6 +82,10 @@ takes_submission p c = (c.home.0 == p.place.site.rank.0) && takes_proposal p c
 -- whether the process accepts at a ballot, by the sheet
 abbrev pub takes_ballot : Process → Command → ℕ → Bool
 takes_ballot p c b = can_accept (kept_of p c.id).site.partition.0 b (kept_of p c.id).sheet && nat_lt b LIMIT
+
+-- whether the process answers a recovery at a ballot, by the sheet
+abbrev pub takes_recovery : Process → Command → ℕ → Bool
+takes_recovery p c b = nat_lt (kept_of p c.id).sheet.ballot b && nat_lt b LIMIT
 
 -- the final stamp, told to the site's executor
 abbrev pub committed : Site → Option Command → ℕ → List Message

@@ -46,7 +46,9 @@ impl Process {
     {
         match acknowledge(&mut self.sheets, &self.place, id, rank, stamp) {
             Some(FastChoice::Fast(top)) => self.decide(id, top),
-            Some(FastChoice::Slow(top)) => self.put_to_vote(id, top),
+            Some(FastChoice::Slow(top)) => {
+                self.put_to_vote(id, u64::from(self.place.site.rank.0), top)
+            }
             None => Ok(self.nothing()),
         }
     }
@@ -87,9 +89,14 @@ impl Process {
         }
     }
 
-    /// Puts a stamp to the vote of all ranks, at the own rank as ballot.
-    fn put_to_vote(&self, id: CommandId, stamp: Stamp) -> Result<Outputs, NoMemory>
-        ensures { IfOk result (λ outputs. outputs ≡ put_to_vote self.now.place.topology self.now.place.site self.now.place.site.rank.0 stamp.0 (kept_of self.now id).sheet.command) }
+    /// Puts a stamp to the vote of all ranks, at a ballot.
+    pub(crate) fn put_to_vote(
+        &self,
+        id: CommandId,
+        ballot: u64,
+        stamp: Stamp,
+    ) -> Result<Outputs, NoMemory>
+        ensures { IfOk result (λ outputs. outputs ≡ put_to_vote self.now.place.topology self.now.place.site ballot stamp.0 (kept_of self.now id).sheet.command) }
     {
         let mut outputs = Sequence::new(self.alloc);
         if let Some(command) = command_at(&self.sheets, &self.place, id) {
@@ -98,7 +105,7 @@ impl Process {
             let body = Body::MConsensus {
                 command: command.copy()?,
                 stamp,
-                ballot: u64::from(place.site.rank.0),
+                ballot,
             };
             send_each(&mut outputs, place.name(), names.as_slice(), &body)?;
         }

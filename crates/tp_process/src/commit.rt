@@ -1,6 +1,6 @@
 ghost use Rattle.std.specs.Prelude.{◌≡◌, ◌≤◌, ◌<◌, ◌++◌, true, IfOk, OnOk};
 ghost use Rattle.tp_process.specs.State.{IsState, committed, identity, kept_of};
-ghost use Rattle.tp_rules.specs.Addresses.{is_between};
+ghost use Rattle.tp_rules.specs.Addresses.{is_between, is_command_at};
 ghost use Rattle.tp_rules.specs.Process.{LIMIT, ProcessState, learned, on_commit, with_sheet};
 ghost use Rattle.tp_rules.specs.Sheet.{Sheet, ring_setting};
 
@@ -20,7 +20,8 @@ impl Process {
         partition: PartitionId,
         stamp: Stamp,
     ) -> Result<Outputs, NoMemory>
-        requires { is_between partition.0 self.old.place.topology.partitions ≡ true }
+        requires command { is_command_at self.old.place.topology self.old.place.site.partition.0 command.now ≡ true }
+        requires partition { is_between partition.0 self.old.place.topology.partitions ≡ true }
         ensures identity { identity self.new ≡ identity self.old }
         ensures outputs { IfOk result (λ outputs. (s : ProcessState) → IsState self.old s → stamp.0 < LIMIT → outputs ≡ (on_commit (ring_setting self.old.place.topology) self.old.place.site command.now partition.0 stamp.0 s).1) }
         ensures state { OnOk result ((s : ProcessState) → IsState self.old s → stamp.0 < LIMIT → IsState self.new (on_commit (ring_setting self.old.place.topology) self.old.place.site command.now partition.0 stamp.0 s).0) }

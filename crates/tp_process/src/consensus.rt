@@ -1,6 +1,6 @@
 ghost use Rattle.std.specs.Prelude.{◌≡◌, ◌<◌, ◌∷◌, [], true, IfOk, OnOk};
 ghost use Rattle.tp_process.specs.State.{IsState, identity, takes_ballot};
-ghost use Rattle.tp_rules.specs.Addresses.{is_between, is_name_of, message, site};
+ghost use Rattle.tp_rules.specs.Addresses.{is_between, is_command_at, is_name_of, message, site};
 ghost use Rattle.tp_rules.specs.Process.{LIMIT as the_limit, ProcessState, on_consensus, on_consensus_ack};
 ghost use Rattle.tp_rules.specs.Sheet.{ring_setting};
 ghost use Rattle.tp_wire.specs.Ranges.{IsProcess};
@@ -21,6 +21,7 @@ impl Process {
         stamp: Stamp,
         ballot: u64,
     ) -> Result<Outputs, NoMemory>
+        requires { is_command_at self.old.place.topology self.old.place.site.partition.0 command.now ≡ true }
         ensures identity { identity self.new ≡ identity self.old }
         ensures outputs { IfOk result (λ outputs. (s : ProcessState) → IsState self.old s → outputs ≡ (on_consensus self.old.place.site from command.now stamp.0 ballot s).1) }
         ensures state { OnOk result ((s : ProcessState) → IsState self.old s → stamp.0 < the_limit → IsState self.new (on_consensus self.old.place.site from command.now stamp.0 ballot s).0) }

@@ -9,6 +9,7 @@ mod commit;
 mod consensus;
 mod place;
 mod process;
+mod recovery;
 mod sheets;
 mod submission;
 #[cfg(test)]

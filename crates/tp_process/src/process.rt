@@ -133,6 +133,14 @@ impl Process {
                 partition,
                 stamp,
             } => self.on_commit(command, *partition, *stamp),
+            Body::MRec { command, ballot } => self.on_rec(message.from, command, *ballot),
+            Body::MRecAck {
+                id,
+                stamp,
+                made,
+                accepted,
+                ballot,
+            } => self.on_rec_ack(message.from, *id, *stamp, *made, *accepted, *ballot),
             _ => Ok(self.nothing()),
         }
     }
@@ -144,6 +152,7 @@ impl Process {
     {
         match inner {
             Inner::Announce => self.on_announce(),
+            Inner::Recover(id) => self.on_recover(id),
             _ => Ok(self.nothing()),
         }
     }

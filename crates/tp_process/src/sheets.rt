@@ -1,12 +1,13 @@
 ghost use Rattle.std.specs.Prelude.{◌≡◌, ◌≤◌, OnOk, IfOk};
 ghost use Rattle.std.specs.Option.{option_copied, option_map};
 ghost use Rattle.tp_process.specs.Sheets.{sheet_at, OpensSheet, ChangesSheet};
-ghost use Rattle.tp_rules.specs.Sheet.{can_accept as can_accept_in, command_or as kept_or, is_fresh as is_fresh_in, kept, with_accepted, with_proposal};
-ghost use Rattle.tp_sheet.specs.SiteSheet.{with_sheet, with_own, choice_by, with_acknowledgement, decision_by, with_vote_of, with_known, final_of, final_by};
+ghost use Rattle.tp_rules.specs.Sheet.{can_accept as can_accept_in, command_or as kept_or, is_fresh as is_fresh_in, is_untouched as is_untouched_in, kept, stamp_of, with_accepted, with_ballot, with_proposal};
+ghost use Rattle.tp_sheet.specs.SiteSheet.{with_sheet, with_own, choice_by, with_acknowledgement, decision_by, with_vote_of, with_known, final_of, final_by, answer_of, ballot_by, with_try, recovery_by, with_answer_of};
 
 use crate::place::Place;
 use indexmap::IndexMap;
 use tp_base::{CommandId, Made, NoMemory, PartitionId, Rank, Stamp};
+use tp_choice::RecoveryAnswer;
 use tp_ops::Command;
 use tp_quorum::FastChoice;
 use tp_sheet::Sheet;
@@ -176,6 +177,122 @@ pub(crate) fn vote(
 {
     match sheets.get_mut(&id) {
         Some(sheet) => sheet.vote(rank, ballot),
+        None => None,
+    }
+}
+
+/// The stamp of a partition, where it is known.
+pub(crate) fn stamp_at(
+    sheets: &Sheets,
+    place: &Place,
+    id: CommandId,
+    partition: PartitionId,
+) -> Option<Stamp>
+    ensures { option_map (λ t. t.0) result ≡ stamp_of (sheet_at place.now.topology place.now.site sheets.now id).sheet partition.0 }
+{
+    match sheets.get(&id) {
+        Some(sheet) => sheet.stamp(partition),
+        None => None,
+    }
+}
+
+/// The greatest ballot that was agreed to for a command.
+pub(crate) fn ballot_at(sheets: &Sheets, place: &Place, id: CommandId) -> u64
+    ensures { result ≡ (sheet_at place.now.topology place.now.site sheets.now id).sheet.ballot }
+{
+    match sheets.get(&id) {
+        Some(sheet) => sheet.ballot(),
+        None => 0,
+    }
+}
+
+/// Whether a command has no proposal and no ballot.
+pub(crate) fn is_untouched(sheets: &Sheets, place: &Place, id: CommandId) -> bool
+    ensures { result ≡ is_untouched_in (sheet_at place.now.topology place.now.site sheets.now id).sheet }
+{
+    match sheets.get(&id) {
+        Some(sheet) => sheet.is_untouched(),
+        None => true,
+    }
+}
+
+/// What is told to a recovery of a command.
+pub(crate) fn told(sheets: &Sheets, place: &Place, id: CommandId) -> RecoveryAnswer
+    ensures { result ≡ answer_of (sheet_at place.now.topology place.now.site sheets.now id) }
+{
+    match sheets.get(&id) {
+        Some(sheet) => sheet.told(),
+        None => RecoveryAnswer {
+            rank: place.site.rank,
+            stamp: Stamp(0),
+            made: Made::Proposal,
+            accepted: 0,
+        },
+    }
+}
+
+/// Keeps a command in its sheet, with a ballot agreed to.
+pub(crate) fn agree(
+    sheets: &mut Sheets,
+    place: &Place,
+    command: Command,
+    ballot: u64,
+) -> Result<(), NoMemory>
+    ensures { OnOk result (let old = sheet_at place.now.topology place.now.site sheets.old command.id in ChangesSheet place.now.topology place.now.site sheets.old sheets.new command.id (with_sheet (with_ballot ballot (kept command old.sheet)) old)) }
+{
+    let id = command.id;
+    open(sheets, place, id)?;
+    if let Some(sheet) = sheets.get_mut(&id) {
+        sheet.keep(command);
+        sheet.agree(ballot);
+    }
+    Ok(())
+}
+
+/// Keeps a command in its sheet, with a proposal that a recovery makes and its ballot agreed to.
+pub(crate) fn propose_late(
+    sheets: &mut Sheets,
+    place: &Place,
+    command: Command,
+    ballot: u64,
+    stamp: Stamp,
+) -> Result<(), NoMemory>
+    ensures { OnOk result (let old = sheet_at place.now.topology place.now.site sheets.old command.id in ChangesSheet place.now.topology place.now.site sheets.old sheets.new command.id (with_sheet (with_ballot ballot (with_proposal stamp.0 Made.Recovery (kept command old.sheet))) old)) }
+{
+    let id = command.id;
+    open(sheets, place, id)?;
+    if let Some(sheet) = sheets.get_mut(&id) {
+        sheet.keep(command);
+        sheet.propose(stamp, Made::Recovery);
+        sheet.agree(ballot);
+    }
+    Ok(())
+}
+
+/// Tries the next ballot for a command, where it can be recovered, and gives it.
+pub(crate) fn recover(sheets: &mut Sheets, place: &Place, id: CommandId) -> Option<u64>
+    ensures ballot { result ≡ ballot_by (sheet_at place.now.topology place.now.site sheets.old id) }
+    ensures changed { ChangesSheet place.now.topology place.now.site sheets.old sheets.new id (with_try (sheet_at place.now.topology place.now.site sheets.old id)) }
+{
+    match sheets.get_mut(&id) {
+        Some(sheet) => sheet.recover(),
+        None => None,
+    }
+}
+
+/// Takes a rank's answer at a ballot, and gives the stamp that is put to the vote with it.
+pub(crate) fn answer(
+    sheets: &mut Sheets,
+    place: &Place,
+    id: CommandId,
+    answer: RecoveryAnswer,
+    ballot: u64,
+) -> Option<Stamp>
+    ensures choice { option_map (λ t. t.0) result ≡ recovery_by answer ballot (sheet_at place.now.topology place.now.site sheets.old id) }
+    ensures changed { ChangesSheet place.now.topology place.now.site sheets.old sheets.new id (with_answer_of answer ballot (sheet_at place.now.topology place.now.site sheets.old id)) }
+{
+    match sheets.get_mut(&id) {
+        Some(sheet) => sheet.answer(answer, ballot),
         None => None,
     }
 }

@@ -1,6 +1,6 @@
 ghost use Rattle.std.specs.Prelude.{◌≡◌, ◌≤◌, ◌<◌, ◌++◌, ◌∷◌, [], true, cond, IfOk, OnOk};
 ghost use Rattle.tp_process.specs.State.{IsState, identity, kept_of, takes_proposal, takes_submission};
-ghost use Rattle.tp_rules.specs.Addresses.{message};
+ghost use Rattle.tp_rules.specs.Addresses.{is_command_at, message};
 ghost use Rattle.tp_rules.specs.Process.{LIMIT, ProcessState, bumps, on_bump, on_payload, on_propose, on_submit, proposals, with_room};
 ghost use Rattle.tp_rules.specs.Sheet.{command_or as kept_or, ring_setting};
 ghost use Rattle.tp_topology.specs.Shape.{in_ring};
@@ -17,6 +17,7 @@ use tp_wire::{Body, Message};
 impl Process {
     /// A command is submitted here: the home proposes, and asks its fast quorum for proposals.
     pub(crate) fn on_submit(&mut self, command: &Command) -> Result<Outputs, NoMemory>
+        requires { is_command_at self.old.place.topology self.old.place.site.partition.0 command.now ≡ true }
         ensures identity { identity self.new ≡ identity self.old }
         ensures outputs { IfOk result (λ outputs. (s : ProcessState) → IsState self.old s → outputs ≡ (with_room s (on_submit (ring_setting self.old.place.topology) self.old.place.site command.now s)).1) }
         ensures state { OnOk result ((s : ProcessState) → IsState self.old s → IsState self.new (with_room s (on_submit (ring_setting self.old.place.topology) self.old.place.site command.now s)).0) }
@@ -38,6 +39,7 @@ impl Process {
         command: &Command,
         floor: Stamp,
     ) -> Result<Outputs, NoMemory>
+        requires { is_command_at self.old.place.topology self.old.place.site.partition.0 command.now ≡ true }
         ensures identity { identity self.new ≡ identity self.old }
         ensures outputs { IfOk result (λ outputs. (s : ProcessState) → IsState self.old s → floor.0 < LIMIT → outputs ≡ (with_room s (on_propose (ring_setting self.old.place.topology) self.old.place.site from command.now floor.0 s)).1) }
         ensures state { OnOk result ((s : ProcessState) → IsState self.old s → floor.0 < LIMIT → IsState self.new (with_room s (on_propose (ring_setting self.old.place.topology) self.old.place.site from command.now floor.0 s)).0) }
@@ -54,6 +56,7 @@ impl Process {
 
     /// The home tells a command to those whom it asks for no proposal.
     pub(crate) fn on_payload(&mut self, command: &Command) -> Result<Outputs, NoMemory>
+        requires { is_command_at self.old.place.topology self.old.place.site.partition.0 command.now ≡ true }
         ensures identity { identity self.new ≡ identity self.old }
         ensures outputs { IfOk result (λ outputs. outputs ≡ []) }
         ensures state { OnOk result ((s : ProcessState) → IsState self.old s → IsState self.new (on_payload command.now s).0) }
@@ -121,7 +124,7 @@ impl Process {
     /// Tells the own proposal to the process of this rank in each other partition of the command
     /// that is kept, or else of this one.
     #[tactic(auto, unfolding(tp_rules::specs::Process::bumps))]
-    fn tell_bumps(
+    pub(crate) fn tell_bumps(
         &self,
         outputs: &mut Outputs,
         command: &Command,

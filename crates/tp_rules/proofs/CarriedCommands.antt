@@ -1,7 +1,7 @@
 -- Where each command that an actor took passes a predicate, so does each that it keeps, has committed or sends. Used for the
 -- provenance of commands.
 use Rattle.std.proofs.Common.{◌≡◌, ℕ, List, [], ◌∷◌, Option, Some, None, cond, refl, sym, subst}
-use Rattle.std.specs.Prelude.{◌==◌, ◌&&◌, nat_lt, not, is_some, unwrap_or}
+use Rattle.std.specs.Prelude.{◌==◌, ◌&&◌, nat_lt, not, is_none, is_some, unwrap_or}
 use Rattle.std.proofs.lemmas.Bool.{cond_both}
 use Rattle.tp_base.specs.Lists.{Each, IsIn, has}
 use Rattle.tp_base.specs.Names.{same_id, same_name}
@@ -9,8 +9,9 @@ use Rattle.tp_base.proofs.SameNames.{same_id_is}
 use Rattle.tp_base.specs.declared.names.ActorName.{ActorName}
 use Rattle.tp_base.specs.declared.names.ActorName.TheVariants.{Process, Executor, Session}
 use Rattle.tp_base.specs.declared.names.CommandId.{CommandId}
-use Rattle.tp_base.specs.declared.names.Made.TheVariants.{Proposal}
+use Rattle.tp_base.specs.declared.names.Made.TheVariants.{Proposal, Recovery}
 use Rattle.tp_base.specs.declared.names.Site.{Site}
+use Rattle.tp_choice.specs.declared.answer.RecoveryAnswer.{RecoveryAnswer}
 use Rattle.tp_ops.specs.declared.command.Command.{Command}
 use Rattle.tp_ops.specs.Parts.{is_accessed}
 use Rattle.tp_quorum.specs.Choice.{present, fast_choice}
@@ -21,16 +22,17 @@ use Rattle.tp_rules.specs.Addresses.{rank_of, partition_of, is_name_of, is_body_
 use Rattle.tp_rules.specs.Executor as executor
 use Rattle.tp_rules.specs.Process as process
 use Rattle.tp_rules.specs.Session as session
-use Rattle.tp_rules.specs.Sheet.{Sheet, Setting, blank, stamp_of, is_fresh, kept, with_proposal, can_acknowledge, acknowledged, acknowledged_own, is_full, putting, can_accept, with_accepted, can_vote, with_vote, has_consensus, with_stamp, final_stamp}
+use Rattle.tp_rules.specs.Sheet.{Sheet, Setting, blank, stamp_of, is_fresh, kept, with_proposal, can_acknowledge, acknowledged, acknowledged_own, is_full, putting, can_accept, with_accepted, can_vote, with_vote, has_consensus, is_untouched, with_ballot, trying, can_answer, with_answer, is_recovered, with_stamp, final_stamp}
 use Rattle.tp_rules.specs.Tables.{nth}
 use Rattle.tp_rules.specs.declared.event.Inner.TheVariants.{Submit, Recover, Announce, Declare, Execute, Crash}
+use Rattle.tp_topology.specs.Ballots.{next_ballot}
 use Rattle.tp_topology.specs.Shape.{Shape}
 use Rattle.tp_wire.specs.declared.message.Body.{Body}
 use Rattle.tp_wire.specs.declared.message.Body.TheVariants.{MSubmit, MPropose, MPayload, MProposeAck, MBump, MConsensus, MConsensusAck, MCommit, MRec, MRecAck, MPromises, MCommitted, MStable, MResult}
 use Rattle.tp_wire.specs.declared.message.Message.{Message}
 use Rattle.tp_rules.proofs.LaterKinds.{executor_silent, session_silent}
 use Rattle.tp_rules.proofs.UpTo.{nth_in}
-use Rattle.tp_rules.proofs.SendsOfProcess.{EachSent, each_to, on_submit_sends, on_propose_sends, on_payload_sends, on_propose_ack_sends, on_consensus_sends, on_consensus_ack_sends, on_commit_sends, on_announce_sends, with_room_sends}
+use Rattle.tp_rules.proofs.SendsOfProcess.{EachSent, each_to, on_submit_sends, on_propose_sends, on_payload_sends, on_propose_ack_sends, on_consensus_sends, on_consensus_ack_sends, on_rec_sends, on_rec_ack_sends, on_recover_sends, on_commit_sends, on_announce_sends, with_room_sends}
 
 -- the command that a body carries passes
 abbrev pub Carries : (Command → Type 0) → Body → Type 0
@@ -114,6 +116,32 @@ module _ (P : Command → Type 0) where
       cond_both (has_consensus s.shape sheet) (process.decided s.shape me id sheet.putting_stamp sheet state) (process.with_sheet id sheet state, []) Kept
       (λ e. learned_keeps s.shape me id me.partition.0 sheet.putting_stamp sheet state h k) (λ e. put_sheet state.sheets id sheet k h)
 
+  rec_keeps : (s : Setting) (me : Site) (from : ActorName) (c : Command) (b : ℕ) (o : Option ℕ) (state : process.ProcessState) →
+      KeepsOnly P state → P c → Kept (process.on_rec_by s me from c b o state)
+  rec_keeps s me from c b (Some t) state h p = h
+  rec_keeps s me from c b None state h p =
+      let sheet = state.sheets c.id in
+      let t = process.next_stamp 0 state in
+      let more = keeps_more c.id c sheet.command p refl (h c.id) in
+      cond_both (nat_lt sheet.ballot b && nat_lt b process.LIMIT) (process.joined s me from c b sheet state) (state, []) Kept
+      (λ e. cond_both (is_untouched sheet) (process.proposed_late s me from c b t sheet state) (process.agreed me from c b sheet state) Kept
+      (λ late. put_sheet state.sheets c.id (with_ballot b (with_proposal t Recovery (kept c sheet))) more h)
+      (λ not_late. put_sheet state.sheets c.id (with_ballot b (kept c sheet)) more h))
+      (λ e. h)
+
+  put_recovered_keeps : (shape : Shape) (me : Site) (id : CommandId) (b : ℕ) (o : Option Command) (sheet : Sheet) (state : process.ProcessState) →
+      KeepsOnly P state → Keeps P id sheet.command → Kept (process.put_recovered shape me id b o sheet state)
+  put_recovered_keeps shape me id b None sheet state h k = put_sheet state.sheets id sheet k h
+  put_recovered_keeps shape me id b (Some c) sheet state h k = put_sheet state.sheets id (putting shape b _ sheet) k h
+
+  recover_keeps : (shape : Shape) (me : Site) (id : CommandId) (state : process.ProcessState) → KeepsOnly P state → Kept (process.on_recover shape me id state)
+  recover_keeps shape me id state h =
+      let sheet = state.sheets id in
+      let b = next_ballot shape me.rank.0 sheet.ballot sheet.tried in
+      cond_both (is_some sheet.command && is_none (stamp_of sheet me.partition.0) && process.has_next sheet)
+      (process.recovering shape me id b sheet state) (state, []) Kept
+      (λ e. put_sheet state.sheets id (trying shape b sheet) (h id) h) (λ e. h)
+
   row_keeps : (s : Setting) (me : Site) (from : ActorName) (body : Body) (state : process.ProcessState) →
       KeepsOnly P state → Carries P body → Kept (process.on_body s me from body state)
   row_keeps s me from (MSubmit c) state h p =
@@ -155,8 +183,14 @@ module _ (P : Command → Type 0) where
       let sheet = with_vote (rank_of from) (state.sheets id) in
       cond_both (can_vote me.partition.0 b (state.sheets id)) (process.voted s me id sheet state) (state, []) Kept
       (λ e. voted_keeps s me id sheet state h (h id)) (λ e. h)
-  row_keeps s me from (MRec c b) state h p = h
-  row_keeps s me from (MRecAck id t made a b) state h p = h
+  row_keeps s me from (MRec c b) state h p = rec_keeps s me from c b (stamp_of (state.sheets c.id) me.partition.0) state h p
+  row_keeps s me from (MRecAck id t made a b) state h p =
+      let new : RecoveryAnswer = record { rank = record { 0 = rank_of from }; stamp = record { 0 = t.0 }; made = made; accepted = a } in
+      let sheet = with_answer new (state.sheets id) in
+      cond_both (can_answer me.partition.0 b (rank_of from) (state.sheets id)) (process.recovered s.shape me id b sheet state) (state, []) Kept
+      (λ e. cond_both (is_recovered s.shape sheet) (process.put_recovered s.shape me id b sheet.command sheet state) (process.with_sheet id sheet state, []) Kept
+      (λ all. put_recovered_keeps s.shape me id b sheet.command sheet state h (h id)) (λ all. put_sheet state.sheets id sheet (h id) h))
+      (λ e. h)
   row_keeps s me from (MPromises lo hi pairs) state h p = h
   row_keeps s me from (MCommitted c t) state h p = h
   row_keeps s me from (MStable id) state h p = h
@@ -178,7 +212,7 @@ module _ (P : Command → Type 0) where
       let next : process.ProcessState = record { clock = state.clock; told = state.clock; attached = state.attached; sheets = state.sheets } in
       cond_both (nat_lt state.told state.clock) (next, process.announced s.shape me state) (state, []) Kept (λ e. h) (λ e. h)
   process_keeps s me (Did (Submit n)) state h p = h
-  process_keeps s me (Did (Recover id)) state h p = h
+  process_keeps s me (Did (Recover id)) state h p = recover_keeps s.shape me id state h
   process_keeps s me (Did (Declare id)) state h p = h
   process_keeps s me (Did (Execute id)) state h p = h
   process_keeps s me (Did Crash) state h p = h
@@ -209,8 +243,10 @@ module _ (P : Command → Type 0) where
   row_sends s me from (MConsensusAck id b) state h p =
       let of_kept : (c : Command) → (state.sheets id).command ≡ Some c → P c = (λ c e. kept_passes id (state.sheets id).command c (h id) e) in
       on_consensus_ack_sends Passes me s from id b state (λ c to t e. of_kept c e) (λ c t e. of_kept c e)
-  row_sends s me from (MRec c b) state h p = tt
-  row_sends s me from (MRecAck id t made a b) state h p = tt
+  row_sends s me from (MRec c b) state h p =
+      on_rec_sends Passes me s from c b state (λ d t e. kept_passes c.id (state.sheets c.id).command d (h c.id) e) (λ x a made. tt) (λ to id t. tt)
+  row_sends s me from (MRecAck id t made a b) state h p =
+      on_rec_ack_sends Passes me s from id t.0 made a b state (λ c to t e. kept_passes id (state.sheets id).command c (h id) e)
   row_sends s me from (MPromises lo hi pairs) state h p = tt
   row_sends s me from (MCommitted c t) state h p = tt
   row_sends s me from (MStable id) state h p = tt
@@ -226,7 +262,8 @@ module _ (P : Command → Type 0) where
       (λ e. with_room_sends Passes me state moved (row_sends s me m.from m.body state h p)) (λ e. tt)
   process_sends_only s me (Did Announce) state h p = on_announce_sends Passes me s.shape state (λ to lo hi pairs. tt)
   process_sends_only s me (Did (Submit n)) state h p = tt
-  process_sends_only s me (Did (Recover id)) state h p = tt
+  process_sends_only s me (Did (Recover id)) state h p =
+      on_recover_sends Passes me s.shape id state (λ c to b e. kept_passes id (state.sheets id).command c (h id) e)
   process_sends_only s me (Did (Declare id)) state h p = tt
   process_sends_only s me (Did (Execute id)) state h p = tt
   process_sends_only s me (Did Crash) state h p = tt

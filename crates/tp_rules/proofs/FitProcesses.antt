@@ -1,8 +1,8 @@
 -- What a process of an accepted script keeps, where it took messages that are fit: stamps in range, promises in order, each of them
 -- for another command of the script. The steps that rules are made of keep it so.
-use Rattle.std.proofs.Common.{◌≡◌, ℕ, ◌<◌, ◌≤◌, ◌-◌, true, false, cond, List, max, map, Option, Some, None, sym, ap, subst, ◌∙◌, arith}
-use Rattle.std.proofs.lemmas.Bool.{both_ways, cond-true, cond_both}
-use Rattle.std.specs.Prelude.{is_none, unwrap_or}
+use Rattle.std.proofs.Common.{◌≡◌, ℕ, ◌<◌, ◌≤◌, ◌-◌, Bool, true, false, cond, List, max, map, Option, Some, None, refl, sym, ap, subst, ◌∙◌, arith}
+use Rattle.std.proofs.lemmas.Bool.{both_ways, cond-true, cond_both, ltb-false, ltb-true}
+use Rattle.std.specs.Prelude.{is_none, nat_lt, unwrap_or}
 use Rattle.tp_base.proofs.Each.{each_in, each_of}
 use Rattle.tp_base.proofs.Members.{in_map}
 use Rattle.tp_base.proofs.SameNames.{same_id_is, same_id_refl}
@@ -11,16 +11,25 @@ use Rattle.tp_base.specs.Names.{same_id}
 use Rattle.tp_base.specs.declared.names.CommandId.{CommandId}
 use Rattle.tp_base.specs.declared.names.Made.{Made}
 use Rattle.tp_base.specs.declared.names.Pair.{Pair}
+use Rattle.tp_choice.specs.declared.answer.RecoveryAnswer.{RecoveryAnswer}
 use Rattle.tp_ops.specs.declared.command.Command.{Command}
 use Rattle.tp_rules.proofs.Distinct.{Distinct}
 use Rattle.tp_rules.proofs.Fit.{IsCommandHere}
+use Rattle.tp_rules.proofs.FitChoices.{AreAnswers, answered, unanswered}
 use Rattle.tp_rules.proofs.FitPromises.{Descends, descends_higher}
 use Rattle.tp_rules.proofs.FitStamps.{with_fit}
 use Rattle.tp_rules.proofs.Selections.{IfAny, each_replicate}
 use Rattle.tp_rules.specs.Process.{LIMIT, ProcessState, bumped, proposing, start, with_sheet}
-use Rattle.tp_rules.specs.Sheet.{Sheet, acknowledged, blank, command_or, kept, putting, with_accepted, with_proposal, with_stamp, with_vote}
+use Rattle.tp_rules.specs.Sheet.{Proposed, Sheet, acknowledged, blank, command_or, is_untouched, kept, putting, stamp_proposed, stamp_told, trying, with_accepted, with_answer, with_ballot, with_proposal, with_stamp, with_vote}
 use Rattle.tp_script.specs.declared.script.Script.{Script}
 use Rattle.tp_wire.specs.Ranges.{IsNumber}
+
+-- what is proposed and accepted is in range, and where a ballot was agreed to, something is proposed or accepted
+pub record IsAcceptorSound (proposal : Option Proposed) (ballot accepted_at stamp : ℕ) : Type 0 where
+  pub proposed : IfAny (λ q. IsNumber q.stamp) proposal
+  pub low : accepted_at < LIMIT
+  pub accepted : 1 ≤ accepted_at → IsNumber stamp
+  pub touched : 1 ≤ ballot → accepted_at ≡ 0 → is_none proposal ≡ false
 
 -- what is kept of one command: a command of the script that accesses the partition, and stamps in range
 pub record IsSheetSound (script : Script) (p : ℕ) (sheet : Sheet) : Type 0 where
@@ -28,6 +37,8 @@ pub record IsSheetSound (script : Script) (p : ℕ) (sheet : Sheet) : Type 0 whe
   pub known : Each (IfAny IsNumber) sheet.known
   pub acknowledged : Each (IfAny IsNumber) sheet.acknowledged
   pub putting : 1 ≤ sheet.putting_ballot → IsNumber sheet.putting_stamp
+  pub acceptor : IsAcceptorSound sheet.proposal sheet.ballot sheet.accepted_ballot sheet.accepted_stamp
+  pub answers : AreAnswers script.topology.replicas sheet.answers
 
 abbrev pub ids_of : Script → List CommandId
 ids_of script = map (λ c. c.id) script.commands
@@ -51,6 +62,13 @@ module _ (script : Script) (p : ℕ) where
     known = each_replicate (IfAny IsNumber) script.topology.partitions None tt;
     acknowledged = each_replicate (IfAny IsNumber) script.topology.replicas None tt;
     putting = λ some. absurd (omega (arith, some));
+    acceptor = record {
+      proposed = tt;
+      low = omega arith;
+      accepted = λ some. absurd (omega (arith, some));
+      touched = λ some. absurd (omega (arith, some));
+    };
+    answers = unanswered script.topology.replicas;
   }
 
   pub start_sound : IsProcessSound script p (start script.topology)
@@ -77,11 +95,24 @@ module _ (script : Script) (p : ℕ) where
     known = sound.known;
     acknowledged = sound.acknowledged;
     putting = sound.putting;
+    acceptor = sound.acceptor;
+    answers = sound.answers;
   }
 
-  pub with_proposal_sound : (t : ℕ) (made : Made) (sheet : Sheet) → IsSheetSound script p sheet → IsSheetSound script p (with_proposal t made sheet)
-  with_proposal_sound t made sheet sound =
-      record { command = sound.command; known = sound.known; acknowledged = sound.acknowledged; putting = sound.putting }
+  pub with_proposal_sound : (t : ℕ) (made : Made) (sheet : Sheet) → IsNumber t → IsSheetSound script p sheet → IsSheetSound script p (with_proposal t made sheet)
+  with_proposal_sound t made sheet number sound = record {
+    command = sound.command;
+    known = sound.known;
+    acknowledged = sound.acknowledged;
+    putting = sound.putting;
+    acceptor = record {
+      proposed = number;
+      low = sound.acceptor.low;
+      accepted = sound.acceptor.accepted;
+      touched = λ some none. refl;
+    };
+    answers = sound.answers;
+  }
 
   pub acknowledged_sound : (rank t : ℕ) (sheet : Sheet) → IsNumber t → IsSheetSound script p sheet → IsSheetSound script p (acknowledged rank t sheet)
   acknowledged_sound rank t sheet number sound = record {
@@ -89,6 +120,8 @@ module _ (script : Script) (p : ℕ) where
     known = sound.known;
     acknowledged = with_fit (IfAny IsNumber) sheet.acknowledged rank (Some t) sound.acknowledged number;
     putting = sound.putting;
+    acceptor = sound.acceptor;
+    answers = sound.answers;
   }
 
   pub with_stamp_sound : (q t : ℕ) (sheet : Sheet) → IsNumber t → IsSheetSound script p sheet → IsSheetSound script p (with_stamp q t sheet)
@@ -97,19 +130,108 @@ module _ (script : Script) (p : ℕ) where
     known = with_fit (IfAny IsNumber) sheet.known q (Some t) sound.known number;
     acknowledged = sound.acknowledged;
     putting = sound.putting;
+    acceptor = sound.acceptor;
+    answers = sound.answers;
   }
 
   pub putting_sound : (b t : ℕ) (sheet : Sheet) → IsNumber t → IsSheetSound script p sheet → IsSheetSound script p (putting script.topology b t sheet)
   putting_sound b t sheet number sound =
-      record { command = sound.command; known = sound.known; acknowledged = sound.acknowledged; putting = λ some. number }
+      record {
+        command = sound.command;
+        known = sound.known;
+        acknowledged = sound.acknowledged;
+        putting = λ some. number;
+        acceptor = sound.acceptor;
+        answers = sound.answers;
+      }
 
-  pub with_accepted_sound : (b t : ℕ) (sheet : Sheet) → IsSheetSound script p sheet → IsSheetSound script p (with_accepted b t sheet)
-  with_accepted_sound b t sheet sound =
-      record { command = sound.command; known = sound.known; acknowledged = sound.acknowledged; putting = sound.putting }
+  pub with_accepted_sound : (b t : ℕ) (sheet : Sheet) → IsNumber b → IsNumber t → IsSheetSound script p sheet
+      → IsSheetSound script p (with_accepted b t sheet)
+  with_accepted_sound b t sheet ballot number sound = record {
+    command = sound.command;
+    known = sound.known;
+    acknowledged = sound.acknowledged;
+    putting = sound.putting;
+    acceptor = record {
+      proposed = sound.acceptor.proposed;
+      low = omega (arith, ballot.1);
+      accepted = λ some. number;
+      touched = λ some none. absurd (omega (arith, some, none));
+    };
+    answers = sound.answers;
+  }
+
+  -- a ballot is agreed to where something is proposed or accepted
+  pub with_ballot_sound : (b : ℕ) (sheet : Sheet) → (sheet.accepted_ballot ≡ 0 → is_none sheet.proposal ≡ false) → IsSheetSound script p sheet
+      → IsSheetSound script p (with_ballot b sheet)
+  with_ballot_sound b sheet touched sound = record {
+    command = sound.command;
+    known = sound.known;
+    acknowledged = sound.acknowledged;
+    putting = sound.putting;
+    acceptor = record {
+      proposed = sound.acceptor.proposed;
+      low = sound.acceptor.low;
+      accepted = sound.acceptor.accepted;
+      touched = λ some none. touched none;
+    };
+    answers = sound.answers;
+  }
+
+  pub trying_sound : (b : ℕ) (sheet : Sheet) → IsSheetSound script p sheet → IsSheetSound script p (trying script.topology b sheet)
+  trying_sound b sheet sound = record {
+    command = sound.command;
+    known = sound.known;
+    acknowledged = sound.acknowledged;
+    putting = sound.putting;
+    acceptor = sound.acceptor;
+    answers = unanswered script.topology.replicas;
+  }
+
+  pub with_answer_sound : (a : RecoveryAnswer) (sheet : Sheet) → IsNumber a.stamp.0 → IsSheetSound script p sheet
+      → IsSheetSound script p (with_answer a sheet)
+  with_answer_sound a sheet number sound = record {
+    command = sound.command;
+    known = sound.known;
+    acknowledged = sound.acknowledged;
+    putting = sound.putting;
+    acceptor = sound.acceptor;
+    answers = answered script.topology.replicas sheet.answers a number sound.answers;
+  }
+
+  -- the stamp told to a recovery is in range
+  pub stamp_told_number : (sheet : Sheet) → (sheet.accepted_ballot ≡ 0 → is_none sheet.proposal ≡ false) → IsSheetSound script p sheet
+      → IsNumber (stamp_told sheet)
+  stamp_told_number sheet touched sound =
+      cond_both (nat_lt 0 sheet.accepted_ballot) sheet.accepted_stamp (stamp_proposed sheet.proposal) IsNumber
+      (λ t. let some = ltb-true 0 sheet.accepted_ballot t in sound.acceptor.accepted (omega (arith, some)))
+      (λ f. let none = ltb-false 0 sheet.accepted_ballot f in of_proposal sheet.proposal sound.acceptor.proposed (touched (omega (arith, none))))
+    where
+      of_proposal : (o : Option Proposed) → IfAny (λ q. IsNumber q.stamp) o → is_none o ≡ false → IsNumber (stamp_proposed o)
+      of_proposal None number some = absurd cc
+      of_proposal (Some q) number some = number
+
+  -- a sheet that is not untouched has a proposal, or has accepted
+  pub touched_before : (sheet : Sheet) → IsSheetSound script p sheet → is_untouched sheet ≡ false → sheet.accepted_ballot ≡ 0
+      → is_none sheet.proposal ≡ false
+  touched_before sheet sound untouched none = of_proposal (is_none sheet.proposal) refl
+    where
+      of_proposal : (b : Bool) → is_none sheet.proposal ≡ b → b ≡ false
+      of_proposal false e = refl
+      of_proposal true e = absurd (let old = sound.acceptor.touched (at_a_ballot e) none in cc)
+        where
+          at_a_ballot : is_none sheet.proposal ≡ true → 1 ≤ sheet.ballot
+          at_a_ballot e = grind (arith, e, untouched)
 
   pub with_vote_sound : (rank : ℕ) (sheet : Sheet) → IsSheetSound script p sheet → IsSheetSound script p (with_vote rank sheet)
-  with_vote_sound rank sheet sound =
-      record { command = sound.command; known = sound.known; acknowledged = sound.acknowledged; putting = sound.putting }
+  with_vote_sound rank sheet sound = record {
+    command = sound.command;
+    known = sound.known;
+    acknowledged = sound.acknowledged;
+    putting = sound.putting;
+    acceptor = sound.acceptor;
+    answers = sound.answers;
+  }
 
   -- states
 

@@ -1,16 +1,21 @@
 -- A process of an accepted script that took messages that are fit sends messages that are fit: each rule of it.
-use Rattle.std.proofs.Common.{◌≡◌, ℕ, ◌<◌, ◌≤◌, Bool, true, false, List, [], ◌∷◌, length, Option, Some, None, refl, arith}
+use Rattle.std.proofs.Common.{◌≡◌, ℕ, ◌-◌, ◌<◌, ◌≤◌, Bool, true, false, List, [], ◌∷◌, length, Option, Some, None, refl, subst, arith}
 use Rattle.std.proofs.lemmas.Bool.{and_parts, cond_both, eqb-true, ltb-true}
-use Rattle.std.specs.Prelude.{is_none, is_some, nat_lt, ◌==◌, ◌&&◌}
-use Rattle.tp_base.proofs.Each.{each_append}
+use Rattle.std.specs.Prelude.{is_none, is_some, nat_lt, slice_get, ◌==◌, ◌&&◌}
+use Rattle.tp_base.proofs.Each.{each_append, each_in}
 use Rattle.tp_base.proofs.Members.{map_in}
+use Rattle.tp_base.specs.Limits.{IsFrom}
 use Rattle.tp_base.specs.Lists.{Each, IsIn}
 use Rattle.tp_base.specs.Names.{same_name}
 use Rattle.tp_base.specs.declared.names.ActorName.{ActorName}
 use Rattle.tp_base.specs.declared.names.ActorName.TheVariants.{Process}
 use Rattle.tp_base.specs.declared.names.CommandId.{CommandId}
-use Rattle.tp_base.specs.declared.names.Made.TheVariants.{Proposal}
+use Rattle.tp_base.specs.declared.names.Made.{Made}
+use Rattle.tp_base.specs.declared.names.Made.TheVariants.{Proposal, Recovery}
+use Rattle.tp_base.specs.declared.names.Rank.{Rank}
 use Rattle.tp_base.specs.declared.names.Site.{Site}
+use Rattle.tp_choice.specs.Choosing.{recovery_choice}
+use Rattle.tp_choice.specs.declared.answer.RecoveryAnswer.{RecoveryAnswer}
 use Rattle.tp_ops.specs.Limits.{IsCommand}
 use Rattle.tp_ops.specs.Parts.{is_accessed}
 use Rattle.tp_ops.specs.declared.command.Command.{Command}
@@ -18,21 +23,23 @@ use Rattle.tp_quorum.specs.Choice.{fast_choice, present}
 use Rattle.tp_quorum.specs.declared.choice.FastChoice.{FastChoice}
 use Rattle.tp_quorum.specs.declared.choice.FastChoice.TheVariants.{Fast, Slow}
 use Rattle.tp_rules.proofs.Fit.{IsBodyOf, IsCommandHere, IsFit, IsFitAct, IsProcessOf, known_process}
-use Rattle.tp_rules.proofs.FitProcesses.{IsProcessSound, IsSheetSound, acknowledged_sound, bumped_sound, command_or_here, ids_of, kept_sound, proposing_sound, putting_sound, start_sound, with_accepted_sound, with_proposal_sound, with_sheet_sound, with_stamp_sound, with_vote_sound}
-use Rattle.tp_rules.proofs.FitSends.{announced_fit, bumps_fit, commits_fit, is_command, own_ballot, own_partition, own_site, proposals_fit, setting_of, votes_fit}
-use Rattle.tp_rules.proofs.FitStamps.{IsChoiceInRange, choice_number, final_number, present_fit}
-use Rattle.tp_rules.proofs.Selections.{IfAny}
+use Rattle.tp_rules.proofs.FitChoices.{next_ballot_number, recovery_number}
+use Rattle.tp_rules.proofs.FitProcesses.{IsProcessSound, IsSheetSound, acknowledged_sound, bumped_sound, command_or_here, ids_of, kept_sound, proposing_sound, putting_sound, stamp_told_number, start_sound, touched_before, trying_sound, with_accepted_sound, with_answer_sound, with_ballot_sound, with_proposal_sound, with_sheet_sound, with_stamp_sound, with_vote_sound}
+use Rattle.tp_rules.proofs.FitSends.{announced_fit, asked_fit, bumps_fit, commits_fit, is_command, own_ballot, own_partition, own_site, proposals_fit, setting_of, told_fit, votes_fit}
+use Rattle.tp_rules.proofs.FitStamps.{IsChoiceInRange, choice_number, final_number, kept_fit, present_fit}
+use Rattle.tp_rules.proofs.Selections.{IfAny, each_get}
 use Rattle.tp_rules.specs.Acts.{Act, Took, Did}
 use Rattle.tp_rules.specs.Addresses.{is_between, is_body_at, is_name_of, is_site_of, rank_of}
-use Rattle.tp_rules.specs.Process.{LIMIT, Moved, ProcessState, accepted as acceptance, announced, bumps, chosen, commits, decided, finished, gathered, learned, next_stamp, on_announce, on_body, on_commit, on_consensus, on_consensus_ack, on_payload, on_propose, on_propose_ack, on_submit, proposals, proposed, react, state_after, submitted, voted, with_room, with_sheet}
-use Rattle.tp_rules.specs.Sheet.{Setting, Sheet, acknowledged, acknowledged_own, can_accept, can_acknowledge, can_vote, command_or, final_stamp, has_consensus, is_fresh, is_full, kept, putting, stamp_of, with_accepted, with_proposal, with_stamp, with_vote}
-use Rattle.tp_rules.specs.declared.event.Inner.TheVariants.{Announce}
-use Rattle.tp_script.specs.Accepted.{IsAccepted}
+use Rattle.tp_rules.specs.Process.{LIMIT, Moved, ProcessState, accepted as acceptance, agreed, announced, answer, bumps, chosen, commits, decided, finished, gathered, has_next, joined, learned, next_stamp, on_announce, on_body, on_commit, on_consensus, on_consensus_ack, on_payload, on_propose, on_propose_ack, on_rec, on_rec_ack, on_rec_by, on_recover, on_submit, proposals, proposed, proposed_late, put_recovered, react, recovered, recovering, state_after, submitted, voted, with_room, with_sheet}
+use Rattle.tp_rules.specs.Sheet.{Setting, Sheet, acknowledged, acknowledged_own, can_accept, can_acknowledge, can_answer, can_vote, command_or, final_stamp, has_consensus, is_fresh, is_full, is_recovered, is_untouched, kept, putting, stamp_of, trying, with_accepted, with_answer, with_ballot, with_proposal, with_stamp, with_vote}
+use Rattle.tp_rules.specs.declared.event.Inner.TheVariants.{Announce, Recover}
+use Rattle.tp_script.specs.Accepted.{IsAccepted, IsCommandOf, IsHome}
 use Rattle.tp_script.specs.declared.script.Script.{Script}
-use Rattle.tp_topology.specs.Shape.{fast_size}
+use Rattle.tp_topology.specs.Ballots.{next_ballot}
+use Rattle.tp_topology.specs.Shape.{fast_size, recovery_size}
 use Rattle.tp_wire.specs.Ranges.{IsBody, IsNumber}
 use Rattle.tp_wire.specs.declared.message.Body.{Body}
-use Rattle.tp_wire.specs.declared.message.Body.TheVariants.{MSubmit, MPropose, MPayload, MProposeAck, MBump, MConsensus, MConsensusAck, MCommit}
+use Rattle.tp_wire.specs.declared.message.Body.TheVariants.{MSubmit, MPropose, MPayload, MProposeAck, MBump, MConsensus, MConsensusAck, MCommit, MRec, MRecAck}
 
 module _ (script : Script) (accepted : IsAccepted script) (in_quorum : Command → ℕ → Bool) (me : Site)
     (here : is_site_of script.topology me ≡ true) where
@@ -147,7 +154,7 @@ module _ (script : Script) (accepted : IsAccepted script) (in_quorum : Command �
   consensus_fit from c t b state sound is_process ours number ballot =
       let old : Sheet = state.sheets c.id in
       let sheet : Sheet = with_accepted b t (kept c old) in
-      let new : IsSheet sheet = with_accepted_sound script me.partition.0 b t (kept c old)
+      let new : IsSheet sheet = with_accepted_sound script me.partition.0 b t (kept c old) ballot number
       (kept_sound script me.partition.0 c old ours (sound.sheets c.id)) in
       let range : IsCommand c = is_command script accepted in_quorum me here c ours in
       cond_both (can_accept me.partition.0 b old && nat_lt b LIMIT) (acceptance me from c t b old state) (state, []) Goes
@@ -199,9 +206,10 @@ module _ (script : Script) (accepted : IsAccepted script) (in_quorum : Command �
   id_ours c ours = map_in (λ (d : Command). d.id) script.commands c ours.ours
 
   -- the sheet of a proposal
-  proposal_sound : (c : Command) (t : ℕ) (sheet : Sheet) → IsHere c → IsSheet sheet → IsSheet (with_proposal t Proposal (kept c sheet))
-  proposal_sound c t sheet ours sound =
-      with_proposal_sound script me.partition.0 t Proposal (kept c sheet) (kept_sound script me.partition.0 c sheet ours sound)
+  proposal_sound : (c : Command) (t : ℕ) (made : Made) (sheet : Sheet) → IsHere c → IsNumber t → IsSheet sheet
+      → IsSheet (with_proposal t made (kept c sheet))
+  proposal_sound c t made sheet ours number sound =
+      with_proposal_sound script me.partition.0 t made (kept c sheet) number (kept_sound script me.partition.0 c sheet ours sound)
 
   no_proposal : (c : Command) (state : ProcessState) → is_fresh me.partition.0 (state.sheets c.id) ≡ true
       → is_none (state.sheets c.id).proposal ≡ true
@@ -219,7 +227,7 @@ module _ (script : Script) (accepted : IsAccepted script) (in_quorum : Command �
       let proposal : Sheet = with_proposal t Proposal (kept c sheet) in
       let own : Sheet = acknowledged_own setting me.partition.0 me.rank.0 t proposal in
       let can : Bool = can_acknowledge setting me.partition.0 me.rank.0 me.rank.0 proposal in
-      let new : IsSheet proposal = proposal_sound c t sheet ours (sound.sheets c.id) in
+      let new : IsSheet proposal = proposal_sound c t Proposal sheet ours number (sound.sheets c.id) in
       let own_sound : IsSheet own = cond_both can (acknowledged me.rank.0 t proposal) proposal IsSheet
       (λ b. acknowledged_sound script me.partition.0 me.rank.0 t proposal number new) (λ b. new) in
       let own_proposed : is_none own.proposal ≡ false = cond_both can (acknowledged me.rank.0 t proposal) proposal
@@ -248,7 +256,7 @@ module _ (script : Script) (accepted : IsAccepted script) (in_quorum : Command �
       let sheet : Sheet = state.sheets c.id in
       let range : IsCommand c = is_command script accepted in_quorum me here c ours in (
         proposing_sound script me.partition.0 c.id t (with_proposal t Proposal (kept c sheet)) state sound room (omega arith) (id_ours c ours) fresh
-            (proposal_sound c t sheet ours (sound.sheets c.id)) refl,
+            (proposal_sound c t Proposal sheet ours number (sound.sheets c.id)) refl,
         (
           record { known = is_process.1; range = (own_site script accepted in_quorum me here, is_process.0, range.0, number); ours = tt },
           bumps_fit script accepted in_quorum me here (command_or c sheet) t
@@ -263,6 +271,141 @@ module _ (script : Script) (accepted : IsAccepted script) (in_quorum : Command �
       (proposed setting me from c (next_stamp floor state) (state.sheets c.id) state) (state, []) Goes
       (λ t. proposed_fit from c floor state sound is_process ours (no_proposal c state t))
       (λ f room. (sound, tt))
+
+  -- recovery
+
+  -- a command's home is a rank of the shape
+  is_home : (c : Command) → IsHere c → IsFrom 1 script.topology.replicas c.home.0
+  is_home c ours =
+      let of : IsCommandOf script.homes c = each_in (IsCommandOf script.homes) script.commands c accepted.commands ours.ours in
+      go (slice_get script.homes (c.id.session.0 - 1)) refl of.2
+    where
+      go : (o : Option Rank) → slice_get script.homes (c.id.session.0 - 1) ≡ o → IsHome o c.home.0 → IsFrom 1 script.topology.replicas c.home.0
+      go None e is = absurd is
+      go (Some rank) e is = subst (λ (k : ℕ). IsFrom 1 script.topology.replicas k) is
+          (each_get (λ (home : Rank). IsFrom 1 script.topology.replicas home.0) script.homes (c.id.session.0 - 1) rank accepted.homes e)
+
+  -- an answer is in range, where something is proposed or accepted
+  answer_fit : (from : ActorName) (c : Command) (b : ℕ) (sheet : Sheet) → IsProcessOf script from → IsHere c → IsNumber b → IsSheet sheet
+      → (sheet.accepted_ballot ≡ 0 → is_none sheet.proposal ≡ false) → IsFit script (answer me from c.id b sheet)
+  answer_fit from c b sheet is_process ours ballot sound touched =
+      let range : IsCommand c = is_command script accepted in_quorum me here c ours in
+      record {
+        known = is_process.1;
+        range = (
+          own_site script accepted in_quorum me here,
+          is_process.0,
+          range.0,
+          stamp_told_number script me.partition.0 sheet touched sound,
+          (omega arith, omega (arith, sound.acceptor.low)),
+          ballot,
+        );
+        ours = tt;
+      }
+
+  proposed_late_fit : (from : ActorName) (c : Command) (b : ℕ) (state : ProcessState) → IsSound state → IsProcessOf script from → IsHere c
+      → IsNumber b → is_untouched (state.sheets c.id) ≡ true
+      → Goes (proposed_late setting me from c b (next_stamp 0 state) (state.sheets c.id) state)
+  proposed_late_fit from c b state sound is_process ours ballot untouched room =
+      let t : ℕ = next_stamp 0 state in
+      let number : IsNumber t = stamp_number 0 state room in
+      let old : Sheet = state.sheets c.id in
+      let fresh : is_none old.proposal ≡ true = (and_parts (is_none old.proposal) (old.ballot == 0) untouched).0 in
+      let sheet : Sheet = with_ballot b (with_proposal t Recovery (kept c old)) in
+      let new : IsSheet sheet = with_ballot_sound script me.partition.0 b (with_proposal t Recovery (kept c old)) (λ none. refl)
+      (proposal_sound c t Recovery old ours number (sound.sheets c.id)) in (
+        proposing_sound script me.partition.0 c.id t sheet state sound room (omega arith) (id_ours c ours) fresh new refl,
+        (
+          answer_fit from c b sheet is_process ours ballot new (λ none. refl),
+          bumps_fit script accepted in_quorum me here (command_or c old) t
+              (command_or_here script me.partition.0 c old ours (sound.sheets c.id)) number,
+        ),
+      )
+
+  agreed_fit : (from : ActorName) (c : Command) (b : ℕ) (state : ProcessState) → IsSound state → IsProcessOf script from → IsHere c
+      → IsNumber b → is_untouched (state.sheets c.id) ≡ false → Goes (agreed me from c b (state.sheets c.id) state)
+  agreed_fit from c b state sound is_process ours ballot touched room =
+      let old : Sheet = state.sheets c.id in
+      let some : old.accepted_ballot ≡ 0 → is_none old.proposal ≡ false = touched_before script me.partition.0 old (sound.sheets c.id) touched in
+      let sheet : Sheet = with_ballot b (kept c old) in
+      let new : IsSheet sheet = with_ballot_sound script me.partition.0 b (kept c old) some
+      (kept_sound script me.partition.0 c old ours (sound.sheets c.id)) in (
+        with_sheet_sound script me.partition.0 c.id sheet state sound new refl,
+        (answer_fit from c b sheet is_process ours ballot new some, tt),
+      )
+
+  joined_fit : (from : ActorName) (c : Command) (b : ℕ) (state : ProcessState) → IsSound state → IsProcessOf script from → IsHere c
+      → IsNumber b → Goes (joined setting me from c b (state.sheets c.id) state)
+  joined_fit from c b state sound is_process ours ballot =
+      let sheet : Sheet = state.sheets c.id in
+      cond_both (is_untouched sheet) (proposed_late setting me from c b (next_stamp 0 state) sheet state) (agreed me from c b sheet state) Goes
+      (proposed_late_fit from c b state sound is_process ours ballot)
+      (agreed_fit from c b state sound is_process ours ballot)
+
+  rec_fit_by : (from : ActorName) (c : Command) (b : ℕ) (o : Option ℕ) (state : ProcessState) → IsSound state → IsProcessOf script from → IsHere c
+      → IsNumber b → IfAny IsNumber o → Goes (on_rec_by setting me from c b o state)
+  rec_fit_by from c b (Some t) state sound is_process ours ballot number room =
+      (sound, told_fit script accepted in_quorum me here from (state.sheets c.id).command t is_process (sound.sheets c.id).command number)
+  rec_fit_by from c b None state sound is_process ours ballot number room =
+      let sheet : Sheet = state.sheets c.id in
+      cond_both (nat_lt sheet.ballot b && nat_lt b LIMIT) (joined setting me from c b sheet state) (state, []) Goes
+      (λ higher. joined_fit from c b state sound is_process ours ballot)
+      (λ lower room. (sound, tt)) room
+
+  rec_fit : (from : ActorName) (c : Command) (b : ℕ) (state : ProcessState) → IsSound state → IsProcessOf script from → IsHere c
+      → IsNumber b → Goes (on_rec setting me from c b state)
+  rec_fit from c b state sound is_process ours ballot =
+      rec_fit_by from c b (stamp_of (state.sheets c.id) me.partition.0) state sound is_process ours ballot
+      (kept_fit IsNumber (state.sheets c.id).known me.partition.0 (sound.sheets c.id).known)
+
+  put_recovered_fit : (id : CommandId) (b : ℕ) (o : Option Command) (sheet : Sheet) (state : ProcessState) → IsSound state → IsSheet sheet
+      → sheet.proposal ≡ (state.sheets id).proposal → IsNumber b → IfAny IsHere o → is_recovered script.topology sheet ≡ true
+      → Goes (put_recovered script.topology me id b o sheet state)
+  put_recovered_fit id b None sheet state sound new same ballot ours full room =
+      (with_sheet_sound script me.partition.0 id sheet state sound new same, tt)
+  put_recovered_fit id b (Some c) sheet state sound new same ballot ours full room =
+      let t : ℕ = recovery_choice script.topology c.home.0 (present sheet.answers) in
+      let home = is_home c ours in
+      let number : IsNumber t = recovery_number script.topology c.home.0 sheet.answers accepted.shape home.0 home.1 new.answers
+      (eqb-true (length (present sheet.answers)) (recovery_size script.topology) full) in (
+        with_sheet_sound script me.partition.0 id (putting script.topology b t sheet) state sound
+            (putting_sound script me.partition.0 b t sheet number new) same,
+        votes_fit script accepted in_quorum me here b t (Some c) ours ballot number,
+      )
+
+  recovered_fit : (id : CommandId) (b : ℕ) (sheet : Sheet) (state : ProcessState) → IsSound state → IsSheet sheet
+      → sheet.proposal ≡ (state.sheets id).proposal → IsNumber b → Goes (recovered script.topology me id b sheet state)
+  recovered_fit id b sheet state sound new same ballot =
+      cond_both (is_recovered script.topology sheet) (put_recovered script.topology me id b sheet.command sheet state) (with_sheet id sheet state, [])
+      Goes
+      (put_recovered_fit id b sheet.command sheet state sound new same ballot new.command)
+      (λ few room. (with_sheet_sound script me.partition.0 id sheet state sound new same, tt))
+
+  rec_ack_fit : (from : ActorName) (id : CommandId) (t : ℕ) (made : Made) (a b : ℕ) (state : ProcessState) → IsSound state → IsNumber t → IsNumber b
+      → Goes (on_rec_ack setting me from id t made a b state)
+  rec_ack_fit from id t made a b state sound number ballot =
+      let old : Sheet = state.sheets id in
+      let new : RecoveryAnswer = record { rank = record { 0 = rank_of from }; stamp = record { 0 = t }; made = made; accepted = a } in
+      cond_both (can_answer me.partition.0 b (rank_of from) old) (recovered script.topology me id b (with_answer new old) state) (state, []) Goes
+      (λ can. recovered_fit id b (with_answer new old) state sound
+      (with_answer_sound script me.partition.0 new old number (sound.sheets id)) refl ballot)
+      (λ cannot room. (sound, tt))
+
+  recover_fit : (id : CommandId) (state : ProcessState) → IsSound state → IsSettled (on_recover script.topology me id state)
+  recover_fit id state sound =
+      let sheet : Sheet = state.sheets id in
+      let b : ℕ = next_ballot script.topology me.rank.0 sheet.ballot sheet.tried in
+      let open_still : Bool = is_some sheet.command && is_none (stamp_of sheet me.partition.0) in
+      cond_both (open_still && has_next sheet) (recovering script.topology me id b sheet state) (state, []) IsSettled
+      (λ t.
+      let low = and_parts (nat_lt sheet.ballot (LIMIT - 8)) (nat_lt sheet.tried (LIMIT - 8)) (and_parts open_still (has_next sheet) t).1 in
+      let number : IsNumber b = next_ballot_number script.topology me.rank.0 sheet.ballot sheet.tried accepted.shape
+      (ltb-true sheet.ballot (LIMIT - 8) low.0) (ltb-true sheet.tried (LIMIT - 8) low.1) in (
+        with_sheet_sound script me.partition.0 id (trying script.topology b sheet) state sound
+            (trying_sound script me.partition.0 b sheet (sound.sheets id)) refl,
+        asked_fit script accepted in_quorum me here b sheet.command (sound.sheets id).command number,
+      ))
+      (λ f. (sound, tt))
 
   announce_fit : (state : ProcessState) → IsSound state → IsSettled (on_announce script.topology me state)
   announce_fit state sound =
@@ -304,6 +447,8 @@ module _ (script : Script) (accepted : IsAccepted script) (in_quorum : Command �
   body_fit from to (MConsensus c t b) state sound range ours named at room = consensus_fit from c t.0 b state sound (range.0, known_process script from range.0 named) (brought c ours at) range.3 range.4 room
   body_fit from to (MConsensusAck id b) state sound range ours named at room = consensus_ack_fit from id b state sound room
   body_fit from to (MCommit c q t) state sound range ours named at room = commit_fit c q.0 t.0 state sound (commit_brought c q.0 ours at) range.4 room
+  body_fit from to (MRec c b) state sound range ours named at room = rec_fit from c b state sound (range.0, known_process script from range.0 named) (brought c ours at) range.3 room
+  body_fit from to (MRecAck id t made a b) state sound range ours named at room = rec_ack_fit from id t.0 made a b state sound range.3 range.5 room
   body_fit from to _ state sound range ours named at room = (sound, tt)
 
   -- what it keeps and sends
@@ -320,6 +465,7 @@ module _ (script : Script) (accepted : IsAccepted script) (in_quorum : Command �
       room_fit state moved sound (body_fit m.from m.to m.body state sound fit.range fit.ours (and_parts to_me named both.0).1 both.1))
       (λ f. (sound, tt))
   process_fit (Did Announce) state fit sound = announce_fit state sound
+  process_fit (Did (Recover id)) state fit sound = recover_fit id state sound
   process_fit (Did _) state fit sound = (sound, tt)
 
   pub process_sound : (acts : List Act) → Each (IsFitAct script) acts → IsSound (state_after setting me acts)

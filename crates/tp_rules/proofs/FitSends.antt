@@ -22,14 +22,14 @@ use Rattle.tp_rules.proofs.FitProcesses.{IsProcessSound, ids_of}
 use Rattle.tp_rules.proofs.FitPromises.{untold_attached}
 use Rattle.tp_rules.proofs.Selections.{IfAny, each_filter, each_image, each_spread, each_up_to, filter_shorter}
 use Rattle.tp_rules.specs.Addresses.{accessed, executors_of, is_site_of, message, others_accessed, processes_of, site}
-use Rattle.tp_rules.specs.Process.{ProcessState, announced, bumps, commits, proposals, put_to_vote, untold}
+use Rattle.tp_rules.specs.Process.{ProcessState, announced, asked, bumps, commits, proposals, put_to_vote, told, untold}
 use Rattle.tp_rules.specs.Sheet.{Setting}
 use Rattle.tp_script.specs.Accepted.{IsAccepted}
 use Rattle.tp_script.specs.declared.script.Script.{Script}
 use Rattle.tp_topology.specs.Counting.{up_to}
 use Rattle.tp_wire.specs.Ranges.{IsNumber}
 use Rattle.tp_wire.specs.declared.message.Body.{Body}
-use Rattle.tp_wire.specs.declared.message.Body.TheVariants.{MPropose, MPayload, MBump, MConsensus, MCommit, MPromises}
+use Rattle.tp_wire.specs.declared.message.Body.TheVariants.{MPropose, MPayload, MBump, MConsensus, MCommit, MRec, MPromises}
 
 -- a script's shape, and any fast quorums
 abbrev pub setting_of : Script → (Command → ℕ → Bool) → Setting
@@ -118,6 +118,37 @@ module _ (script : Script) (accepted : IsAccepted script) (in_quorum : Command �
       (each_weaker (IsProcessOf script) (λ to. IsFit script (message (Process me) to body))
       (λ to is_process. record { known = is_process.1; range = (own_site, is_process.0, range, number, ballot); ours = ours.ours })
       names (each_process script accepted.shape me.partition.0 own_partition))
+
+  -- all ranks are asked
+  pub asked_fit : (b : ℕ) (o : Option Command) → IfAny (IsCommandHere script me.partition.0) o → IsNumber b
+      → Each (IsFit script) (asked script.topology me b o)
+  asked_fit b None ours ballot = tt
+  asked_fit b (Some c) ours ballot =
+      let range : IsCommand c = is_command c ours in
+      let names : List ActorName = processes_of script.topology me.partition.0 in
+      each_image (IsFit script) (λ to. message (Process me) to (MRec c b)) names
+      (each_weaker (IsProcessOf script) (λ to. IsFit script (message (Process me) to (MRec c b)))
+      (λ to is_process. record { known = is_process.1; range = (own_site, is_process.0, range, ballot); ours = ours.ours })
+      names (each_process script accepted.shape me.partition.0 own_partition))
+
+  -- the partition's stamp is told to one
+  pub told_fit : (from : ActorName) (o : Option Command) (t : ℕ) → IsProcessOf script from → IfAny (IsCommandHere script me.partition.0) o → IsNumber t
+      → Each (IsFit script) (told me from o t)
+  told_fit from None t is_process ours number = tt
+  told_fit from (Some c) t is_process ours number = (
+    record {
+      known = is_process.1;
+      range = (
+        own_site,
+        is_process.0,
+        is_command c ours,
+        (own_partition.0, omega (arith, own_partition.1, accepted.shape.few_partitions)),
+        number,
+      );
+      ours = ours.ours;
+    },
+    tt,
+  )
 
   -- an announcement has as many pairs as the script has commands, at most
 

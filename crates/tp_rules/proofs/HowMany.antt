@@ -1,6 +1,6 @@
 -- How many messages one act sends, at most: 63, for each shape. Used for the end of runs.
 use Rattle.std.proofs.Common.{◌≡◌, ℕ, ◌*◌, ◌≤◌, List, [], Option, Some, None, length, map, cond, ap, ◌∙◌, arith}
-use Rattle.std.specs.Prelude.{filter, ◌==◌, ◌&&◌, nat_lt, not, is_some}
+use Rattle.std.specs.Prelude.{filter, ◌==◌, ◌&&◌, nat_lt, not, is_none, is_some}
 use Rattle.std.specs.List.{flat_map}
 use Rattle.std.proofs.lemmas.Bool.{cond_both}
 use Rattle.std.proofs.lemmas.List.{length-append}
@@ -8,7 +8,10 @@ use Rattle.tp_base.specs.Names.{same_name}
 use Rattle.tp_base.specs.declared.names.ActorName.{ActorName}
 use Rattle.tp_base.specs.declared.names.ActorName.TheVariants.{Process, Executor, Session}
 use Rattle.tp_base.specs.declared.names.CommandId.{CommandId}
+use Rattle.tp_base.specs.declared.names.Made.{Made}
 use Rattle.tp_base.specs.declared.names.Site.{Site}
+use Rattle.tp_choice.specs.Choosing.{recovery_choice}
+use Rattle.tp_choice.specs.declared.answer.RecoveryAnswer.{RecoveryAnswer}
 use Rattle.tp_ops.specs.declared.command.Command.{Command}
 use Rattle.tp_ops.specs.Parts.{is_accessed}
 use Rattle.tp_quorum.specs.Choice.{present, fast_choice}
@@ -22,11 +25,12 @@ use Rattle.tp_rules.specs.Session as session
 use Rattle.tp_rules.specs.Journal.{identity_in, client_of, act_of, acts}
 use Rattle.tp_rules.specs.Rules.{outputs_of}
 use Rattle.tp_rules.specs.Runs.{outputs_by, outputs_in, FollowsRules}
-use Rattle.tp_rules.specs.Sheet.{Sheet, Setting, ring_setting, stamp_of, is_fresh, command_or, kept, can_acknowledge, acknowledged, is_full, can_accept, can_vote, with_vote, has_consensus, with_stamp, final_stamp}
+use Rattle.tp_rules.specs.Sheet.{Sheet, Setting, ring_setting, stamp_of, is_fresh, command_or, kept, can_acknowledge, acknowledged, is_full, can_accept, can_vote, with_vote, has_consensus, is_untouched, can_answer, with_answer, is_recovered, with_stamp, final_stamp}
 use Rattle.tp_rules.specs.Tables.{nth}
 use Rattle.tp_rules.specs.declared.event.Entry.{Entry}
 use Rattle.tp_rules.specs.declared.event.Inner.TheVariants.{Submit, Recover, Announce, Declare, Execute, Crash}
 use Rattle.tp_script.specs.declared.script.Script.{Script}
+use Rattle.tp_topology.specs.Ballots.{next_ballot}
 use Rattle.tp_topology.specs.Counting.{up_to}
 use Rattle.tp_topology.specs.Shape.{Shape, IsShape}
 use Rattle.tp_wire.specs.declared.message.Body.{Body}
@@ -159,6 +163,51 @@ module _ (s : Setting) (good : IsShape s.shape) (me : Site) where
       cond_both (can_vote me.partition.0 b (state.sheets id)) (process.voted s me id sheet state) (state, []) IsShort
       (λ e. voted_short id sheet state) (λ e. omega arith)
 
+  told_short : (from : ActorName) (o : Option Command) (t : ℕ) → length (process.told me from o t) ≤ 1
+  told_short from None t = omega arith
+  told_short from (Some c) t = omega arith
+
+  joined_short : (from : ActorName) (c : Command) (b : ℕ) (sheet : Sheet) (state : process.ProcessState) → IsShort (process.joined s me from c b sheet state)
+  joined_short from c b sheet state =
+      let t = process.next_stamp 0 state in
+      cond_both (is_untouched sheet) (process.proposed_late s me from c b t sheet state) (process.agreed me from c b sheet state) IsShort
+      (λ e. omega (arith, bumps_short (command_or c sheet) t)) (λ e. omega arith)
+
+  rec_short : (from : ActorName) (c : Command) (b : ℕ) (o : Option ℕ) (state : process.ProcessState) → IsShort (process.on_rec_by s me from c b o state)
+  rec_short from c b (Some t) state = omega (arith, told_short from (state.sheets c.id).command t)
+  rec_short from c b None state =
+      let sheet = state.sheets c.id in
+      cond_both (nat_lt sheet.ballot b && nat_lt b process.LIMIT) (process.joined s me from c b sheet state) (state, []) IsShort
+      (λ e. joined_short from c b sheet state) (λ e. omega arith)
+
+  put_recovered_short : (id : CommandId) (b : ℕ) (o : Option Command) (sheet : Sheet) (state : process.ProcessState) →
+      IsShort (process.put_recovered s.shape me id b o sheet state)
+  put_recovered_short id b None sheet state = omega arith
+  put_recovered_short id b (Some c) sheet state = omega (arith, put_short b (recovery_choice s.shape c.home.0 (present sheet.answers)) (Some c))
+
+  rec_ack_short : (from : ActorName) (id : CommandId) (t : ℕ) (made : Made) (a b : ℕ) (state : process.ProcessState) →
+      IsShort (process.on_rec_ack s me from id t made a b state)
+  rec_ack_short from id t made a b state =
+      let new : RecoveryAnswer = record { rank = record { 0 = rank_of from }; stamp = record { 0 = t }; made = made; accepted = a } in
+      let sheet = with_answer new (state.sheets id) in
+      cond_both (can_answer me.partition.0 b (rank_of from) (state.sheets id)) (process.recovered s.shape me id b sheet state) (state, []) IsShort
+      (λ e. cond_both (is_recovered s.shape sheet) (process.put_recovered s.shape me id b sheet.command sheet state) (process.with_sheet id sheet state, []) IsShort
+      (λ all. put_recovered_short id b sheet.command sheet state) (λ all. omega arith))
+      (λ e. omega arith)
+
+  asked_short : (b : ℕ) (o : Option Command) → length (process.asked s.shape me b o) ≤ 7
+  asked_short b None = omega arith
+  asked_short b (Some c) =
+      omega (arith, to_each_length (Process me) (processes_of s.shape me.partition.0) (MRec c b), processes_length s.shape me.partition.0, good.few_replicas)
+
+  recover_short : (id : CommandId) (state : process.ProcessState) → IsShort (process.on_recover s.shape me id state)
+  recover_short id state =
+      let sheet = state.sheets id in
+      let b = next_ballot s.shape me.rank.0 sheet.ballot sheet.tried in
+      cond_both (is_some sheet.command && is_none (stamp_of sheet me.partition.0) && process.has_next sheet)
+      (process.recovering s.shape me id b sheet state) (state, []) IsShort
+      (λ e. omega (arith, asked_short b sheet.command)) (λ e. omega arith)
+
   commit_short : (c : Command) (q t : ℕ) (state : process.ProcessState) → IsShort (process.on_commit s me c q t state)
   commit_short c q t state =
       let sheet = kept c (state.sheets c.id) in
@@ -183,8 +232,8 @@ module _ (s : Setting) (good : IsShape s.shape) (me : Site) where
   row_short from (MBump id t) state = omega arith
   row_short from (MConsensus c t b) state = consensus_short from c t.0 b state
   row_short from (MConsensusAck id b) state = consensus_ack_short from id b state
-  row_short from (MRec c b) state = omega arith
-  row_short from (MRecAck id t made a b) state = omega arith
+  row_short from (MRec c b) state = rec_short from c b (stamp_of (state.sheets c.id) me.partition.0) state
+  row_short from (MRecAck id t made a b) state = rec_ack_short from id t.0 made a b state
   row_short from (MPromises lo hi pairs) state = omega arith
   row_short from (MCommitted c t) state = omega arith
   row_short from (MStable id) state = omega arith
@@ -202,7 +251,7 @@ module _ (s : Setting) (good : IsShape s.shape) (me : Site) where
   process_short (Took m) state = message_short m state
   process_short (Did Announce) state = announce_short state
   process_short (Did (Submit n)) state = omega arith
-  process_short (Did (Recover id)) state = omega arith
+  process_short (Did (Recover id)) state = recover_short id state
   process_short (Did (Declare id)) state = omega arith
   process_short (Did (Execute id)) state = omega arith
   process_short (Did Crash) state = omega arith

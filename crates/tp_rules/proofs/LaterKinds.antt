@@ -24,7 +24,7 @@ use Rattle.tp_topology.specs.Shape.{Shape}
 use Rattle.tp_wire.specs.declared.message.Body.{Body}
 use Rattle.tp_wire.specs.declared.message.Body.TheVariants.{MSubmit, MPropose, MPayload, MProposeAck, MBump, MConsensus, MConsensusAck, MCommit, MRec, MRecAck, MPromises, MCommitted, MStable, MResult}
 use Rattle.tp_wire.specs.declared.message.Message.{Message}
-use Rattle.tp_rules.proofs.SendsOfProcess.{EachSent, each_to, on_submit_sends, on_propose_sends, on_payload_sends, on_propose_ack_sends, on_consensus_sends, on_consensus_ack_sends, on_commit_sends, on_announce_sends, with_room_sends}
+use Rattle.tp_rules.proofs.SendsOfProcess.{EachSent, each_to, on_submit_sends, on_propose_sends, on_payload_sends, on_propose_ack_sends, on_consensus_sends, on_consensus_ack_sends, on_rec_sends, on_rec_ack_sends, on_commit_sends, on_announce_sends, with_room_sends}
 
 -- of a later kind
 abbrev pub IsAfter : ℕ → Message → Type 0
@@ -44,8 +44,9 @@ row_sends_later s me from (MBump id t) state = tt
 row_sends_later s me from (MConsensus c t b) state = on_consensus_sends (IsAfter 6) me from c t.0 b state (omega arith)
 row_sends_later s me from (MConsensusAck id b) state =
     on_consensus_ack_sends (IsAfter 7) me s from id b state (λ c to t e. omega arith) (λ c t e. omega arith)
-row_sends_later s me from (MRec c b) state = tt
-row_sends_later s me from (MRecAck id t made a b) state = tt
+row_sends_later s me from (MRec c b) state =
+    on_rec_sends (IsAfter 3) me s from c b state (λ d t e. omega arith) (λ x a made. omega arith) (λ to id t. omega arith)
+row_sends_later s me from (MRecAck id t made a b) state = on_rec_ack_sends (IsAfter 5) me s from id t.0 made a b state (λ c to t e. omega arith)
 row_sends_later s me from (MPromises lo hi pairs) state = tt
 row_sends_later s me from (MCommitted c t) state = tt
 row_sends_later s me from (MStable id) state = tt

@@ -21,6 +21,7 @@ pub mod DeliveriesLeft
 pub mod Distinct
 pub mod EachSent
 pub mod Fit
+pub mod FitChoices
 pub mod FitExecutors
 pub mod FitProcesses
 pub mod FitPromises

@@ -1,27 +1,32 @@
 -- What each row of a process sends: what holds of these messages holds of each output. Used for the order of the kinds along a
 -- run, and for the commands that messages carry.
 use Rattle.std.proofs.Common.{◌≡◌, ℕ, List, [], Option, Some, None, refl}
-use Rattle.std.specs.Prelude.{is_some, ◌==◌, ◌&&◌, nat_lt}
+use Rattle.std.specs.Prelude.{is_none, is_some, ◌==◌, ◌&&◌, nat_lt}
 use Rattle.std.proofs.lemmas.Bool.{cond_both}
 use Rattle.tp_base.proofs.Each.{each_append, each_map}
 use Rattle.tp_base.specs.Lists.{Each}
 use Rattle.tp_base.specs.declared.names.ActorName.{ActorName}
 use Rattle.tp_base.specs.declared.names.ActorName.TheVariants.{Process, Executor}
 use Rattle.tp_base.specs.declared.names.CommandId.{CommandId}
+use Rattle.tp_base.specs.declared.names.Made.{Made}
+use Rattle.tp_base.specs.declared.names.Made.TheVariants.{Recovery}
 use Rattle.tp_base.specs.declared.names.Pair.{Pair}
 use Rattle.tp_base.specs.declared.names.Site.{Site}
 use Rattle.tp_base.specs.declared.names.Stamp.{Stamp}
+use Rattle.tp_choice.specs.Choosing.{recovery_choice}
+use Rattle.tp_choice.specs.declared.answer.RecoveryAnswer.{RecoveryAnswer}
 use Rattle.tp_ops.specs.declared.command.Command.{Command}
 use Rattle.tp_ops.specs.Parts.{is_accessed}
 use Rattle.tp_quorum.specs.Choice.{present, fast_choice}
 use Rattle.tp_quorum.specs.declared.choice.FastChoice.{FastChoice}
 use Rattle.tp_quorum.specs.declared.choice.FastChoice.TheVariants.{Fast, Slow}
 use Rattle.tp_rules.specs.Addresses.{message, to_each, site, rank_of}
-use Rattle.tp_rules.specs.Process.{ProcessState, Moved, bumps, finished, learned, commits, decided, put_to_vote, proposals, submitted, on_submit, proposed, on_propose, on_payload, chosen, gathered, on_propose_ack, accepted, on_consensus, voted, on_consensus_ack, on_commit, announced, on_announce, untold, with_room, LIMIT, next_stamp, with_sheet}
-use Rattle.tp_rules.specs.Sheet.{Sheet, Setting, stamp_of, is_fresh, command_or, kept, can_acknowledge, acknowledged, is_full, can_accept, can_vote, with_vote, has_consensus, with_stamp, final_stamp}
+use Rattle.tp_rules.specs.Process.{ProcessState, Moved, bumps, finished, learned, commits, decided, put_to_vote, proposals, submitted, on_submit, proposed, on_propose, on_payload, chosen, gathered, on_propose_ack, accepted, on_consensus, voted, on_consensus_ack, told, proposed_late, agreed, joined, on_rec_by, on_rec, put_recovered, recovered, on_rec_ack, asked, recovering, has_next, on_recover, on_commit, announced, on_announce, untold, with_room, LIMIT, next_stamp, with_sheet}
+use Rattle.tp_rules.specs.Sheet.{Sheet, Setting, stamp_of, is_fresh, command_or, kept, can_acknowledge, acknowledged, is_full, can_accept, can_vote, with_vote, has_consensus, made_of, stamp_told, is_untouched, with_ballot, with_proposal, can_answer, with_answer, is_recovered, with_stamp, final_stamp}
+use Rattle.tp_topology.specs.Ballots.{next_ballot}
 use Rattle.tp_topology.specs.Shape.{Shape}
 use Rattle.tp_wire.specs.declared.message.Body.{Body}
-use Rattle.tp_wire.specs.declared.message.Body.TheVariants.{MPropose, MPayload, MProposeAck, MBump, MConsensus, MConsensusAck, MCommit, MPromises, MCommitted}
+use Rattle.tp_wire.specs.declared.message.Body.TheVariants.{MPropose, MPayload, MProposeAck, MBump, MConsensus, MConsensusAck, MCommit, MRec, MRecAck, MPromises, MCommitted}
 use Rattle.tp_wire.specs.declared.message.Message.{Message}
 
 abbrev pub stamp : ℕ → Stamp
@@ -171,6 +176,72 @@ module _ (M : Message → Type 0) (me : Site) where
       let sheet = kept c (state.sheets c.id) in
       cond_both (is_accessed s.shape.partitions c q) (learned s.shape me c.id q t sheet state) (state, []) (EachSent M)
       (λ e. learned_sends s.shape c.id q t sheet state h) (λ e. tt)
+
+  pub joined_sends : (s : Setting) (from : ActorName) (c : Command) (b : ℕ) (sheet : Sheet) (state : ProcessState) →
+      ((x a : ℕ) (made : Made) → M (message (Process me) from (MRecAck c.id (stamp x) made a b))) →
+      ((to : ActorName) (id : CommandId) (t : ℕ) → M (message (Process me) to (MBump id (stamp t)))) →
+      EachSent M (joined s me from c b sheet state)
+  joined_sends s from c b sheet state h k =
+      let t = next_stamp 0 state in
+      let late = with_ballot b (with_proposal t Recovery (kept c sheet)) in
+      let new = with_ballot b (kept c sheet) in
+      cond_both (is_untouched sheet) (proposed_late s me from c b t sheet state) (agreed me from c b sheet state) (EachSent M)
+      (λ e. (h (stamp_told late) late.accepted_ballot (made_of late.proposal), bumps_send s.shape (command_or c sheet) t (λ to. k to (command_or c sheet).id t)))
+      (λ e. (h (stamp_told new) new.accepted_ballot (made_of new.proposal), tt))
+
+  told_sends : (from : ActorName) (o : Option Command) (t : ℕ) →
+      ((d : Command) → o ≡ Some d → M (message (Process me) from (MCommit d me.partition (stamp t)))) → Each M (told me from o t)
+  told_sends from None t g = tt
+  told_sends from (Some d) t g = (g d refl, tt)
+
+  on_rec_by_sends : (s : Setting) (from : ActorName) (c : Command) (b : ℕ) (o : Option ℕ) (state : ProcessState) →
+      ((d : Command) (t : ℕ) → (state.sheets c.id).command ≡ Some d → M (message (Process me) from (MCommit d me.partition (stamp t)))) →
+      ((x a : ℕ) (made : Made) → M (message (Process me) from (MRecAck c.id (stamp x) made a b))) →
+      ((to : ActorName) (id : CommandId) (t : ℕ) → M (message (Process me) to (MBump id (stamp t)))) →
+      EachSent M (on_rec_by s me from c b o state)
+  on_rec_by_sends s from c b (Some t) state g h k = told_sends from (state.sheets c.id).command t (λ d e. g d t e)
+  on_rec_by_sends s from c b None state g h k =
+      cond_both (nat_lt (state.sheets c.id).ballot b && nat_lt b LIMIT) (joined s me from c b (state.sheets c.id) state) (state, []) (EachSent M)
+      (λ e. joined_sends s from c b (state.sheets c.id) state h k) (λ e. tt)
+
+  pub on_rec_sends : (s : Setting) (from : ActorName) (c : Command) (b : ℕ) (state : ProcessState) →
+      ((d : Command) (t : ℕ) → (state.sheets c.id).command ≡ Some d → M (message (Process me) from (MCommit d me.partition (stamp t)))) →
+      ((x a : ℕ) (made : Made) → M (message (Process me) from (MRecAck c.id (stamp x) made a b))) →
+      ((to : ActorName) (id : CommandId) (t : ℕ) → M (message (Process me) to (MBump id (stamp t)))) →
+      EachSent M (on_rec s me from c b state)
+  on_rec_sends s from c b state g h k = on_rec_by_sends s from c b (stamp_of (state.sheets c.id) me.partition.0) state g h k
+
+  put_recovered_sends : (shape : Shape) (id : CommandId) (b : ℕ) (o : Option Command) (sheet : Sheet) (state : ProcessState) →
+      ((c : Command) (to : ActorName) (t : ℕ) → o ≡ Some c → M (message (Process me) to (MConsensus c (stamp t) b))) →
+      EachSent M (put_recovered shape me id b o sheet state)
+  put_recovered_sends shape id b None sheet state h = tt
+  put_recovered_sends shape id b (Some c) sheet state h =
+      let t = recovery_choice shape c.home.0 (present sheet.answers) in put_to_vote_sends shape b t (Some c) (λ d to e. h d to t e)
+
+  pub on_rec_ack_sends : (s : Setting) (from : ActorName) (id : CommandId) (t : ℕ) (made : Made) (a b : ℕ) (state : ProcessState) →
+      ((c : Command) (to : ActorName) (t : ℕ) → (state.sheets id).command ≡ Some c → M (message (Process me) to (MConsensus c (stamp t) b))) →
+      EachSent M (on_rec_ack s me from id t made a b state)
+  on_rec_ack_sends s from id t made a b state h =
+      let new : RecoveryAnswer = record { rank = record { 0 = rank_of from }; stamp = record { 0 = t }; made = made; accepted = a } in
+      let sheet = with_answer new (state.sheets id) in
+      cond_both (can_answer me.partition.0 b (rank_of from) (state.sheets id)) (recovered s.shape me id b sheet state) (state, []) (EachSent M)
+      (λ e. cond_both (is_recovered s.shape sheet) (put_recovered s.shape me id b sheet.command sheet state) (with_sheet id sheet state, []) (EachSent M)
+      (λ all. put_recovered_sends s.shape id b sheet.command sheet state h) (λ all. tt))
+      (λ e. tt)
+
+  asked_sends : (shape : Shape) (b : ℕ) (o : Option Command) → ((c : Command) (to : ActorName) → o ≡ Some c → M (message (Process me) to (MRec c b))) →
+      Each M (asked shape me b o)
+  asked_sends shape b None h = tt
+  asked_sends shape b (Some c) h = each_to M (Process me) _ (MRec c b) (λ to. h c to refl)
+
+  pub on_recover_sends : (shape : Shape) (id : CommandId) (state : ProcessState) →
+      ((c : Command) (to : ActorName) (b : ℕ) → (state.sheets id).command ≡ Some c → M (message (Process me) to (MRec c b))) →
+      EachSent M (on_recover shape me id state)
+  on_recover_sends shape id state h =
+      let sheet = state.sheets id in
+      let b = next_ballot shape me.rank.0 sheet.ballot sheet.tried in
+      cond_both (is_some sheet.command && is_none (stamp_of sheet me.partition.0) && has_next sheet) (recovering shape me id b sheet state) (state, []) (EachSent M)
+      (λ e. asked_sends shape b sheet.command (λ c to same. h c to b same)) (λ e. tt)
 
   pub on_announce_sends : (shape : Shape) (state : ProcessState) →
       ((to : ActorName) (lo hi : ℕ) (pairs : List Pair) → M (message (Process me) to (MPromises lo hi pairs))) → EachSent M

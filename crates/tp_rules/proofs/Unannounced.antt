@@ -1,7 +1,7 @@
 -- How many processes have a clock above what they told: an announcement takes one away, and only what changes a process adds
 -- to it. Used for the end of runs.
 use Rattle.std.proofs.Common.{◌≡◌, ℕ, ◌+◌, ◌<◌, ◌≤◌, Bool, true, false, List, [], ◌∷◌, Some, length, refl, sym, ap, subst, ◌∙◌, arith}
-use Rattle.std.specs.Prelude.{◌&&◌, nat_lt, nat_le}
+use Rattle.std.specs.Prelude.{◌&&◌, is_none, is_some, nat_lt, nat_le}
 use Rattle.std.proofs.lemmas.Bool.{cond_both, le-ltb, leb-true, and_parts}
 use Rattle.tp_base.specs.Lists.{IsIn}
 use Rattle.tp_base.specs.Names.{same_name}
@@ -16,11 +16,12 @@ use Rattle.tp_rules.specs.Journal.{act_of, acts, is_known, ranks_of}
 use Rattle.tp_rules.specs.Left.{place_of, has_untold, unannounced}
 use Rattle.tp_rules.specs.Pending.{sites_of}
 use Rattle.tp_rules.specs.Runs.{MayHappen, FollowsRules}
-use Rattle.tp_rules.specs.Sheet.{Setting, ring_setting}
+use Rattle.tp_rules.specs.Sheet.{Setting, ring_setting, stamp_of}
 use Rattle.tp_rules.specs.declared.event.Entry.{Entry}
 use Rattle.tp_rules.specs.declared.event.Event.TheVariants.{Inner as OfItself}
 use Rattle.tp_rules.specs.declared.event.Inner.TheVariants.{Submit, Recover, Announce, Declare, Execute, Crash}
 use Rattle.tp_script.specs.declared.script.Script.{Script}
+use Rattle.tp_topology.specs.Ballots.{next_ballot}
 use Rattle.tp_topology.specs.Counting.{up_to}
 use Rattle.tp_topology.specs.Shape.{Shape, IsShape}
 use Rattle.tp_wire.specs.declared.message.Body.{Body}
@@ -99,7 +100,12 @@ act_adds_none s me (Did Announce) state h e =
     (λ (moved : process.Moved). untold moved.0 ≡ true → untold state ≡ true)
     (λ t f. t) (λ t f. f) e
 act_adds_none s me (Did (Submit n)) state h e = e
-act_adds_none s me (Did (Recover id)) state h e = e
+act_adds_none s me (Did (Recover id)) state h e =
+    let sheet = state.sheets id in
+    let b = next_ballot s.shape me.rank.0 sheet.ballot sheet.tried in
+    cond_both (is_some sheet.command && is_none (stamp_of sheet me.partition.0) && process.has_next sheet)
+    (process.recovering s.shape me id b sheet state) (state, []) (λ (moved : process.Moved). untold moved.0 ≡ true → untold state ≡ true)
+    (λ t f. f) (λ t f. f) e
 act_adds_none s me (Did (Declare id)) state h e = e
 act_adds_none s me (Did (Execute id)) state h e = e
 act_adds_none s me (Did Crash) state h e = e

@@ -1,14 +1,17 @@
 -- The rules of a process: what each message and each step of its own changes and sends.
-use Rattle.std.specs.Prelude.{ℕ, ◌^◌, ◌≤◌, ◌≡◌, ◌==◌, ◌&&◌, nat_lt, not, cond, List, [], ◌∷◌, ◌++◌, Option, Some, None, is_some, map, filter, reverse}
+use Rattle.std.specs.Prelude.{ℕ, ◌^◌, ◌-◌, ◌≤◌, ◌≡◌, ◌==◌, ◌&&◌, nat_lt, not, Bool, cond, List, [], ◌∷◌, ◌++◌, Option, Some, None, is_none, is_some, map, filter, reverse}
 use Rattle.std.specs.List.{flat_map}
 use Rattle.tp_base.specs.Names.{same_id, same_name}
 use Rattle.tp_base.specs.Promises.{proposed as proposed_stamp, bumped as bumped_clock}
 use Rattle.tp_base.specs.declared.names.ActorName.{ActorName}
 use Rattle.tp_base.specs.declared.names.ActorName.TheVariants.{Process, Executor}
 use Rattle.tp_base.specs.declared.names.CommandId.{CommandId}
-use Rattle.tp_base.specs.declared.names.Made.TheVariants.{Proposal}
+use Rattle.tp_base.specs.declared.names.Made.{Made}
+use Rattle.tp_base.specs.declared.names.Made.TheVariants.{Proposal, Recovery}
 use Rattle.tp_base.specs.declared.names.Pair.{Pair}
 use Rattle.tp_base.specs.declared.names.Site.{Site}
+use Rattle.tp_choice.specs.Choosing.{recovery_choice}
+use Rattle.tp_choice.specs.declared.answer.RecoveryAnswer.{RecoveryAnswer}
 use Rattle.tp_ops.specs.declared.command.Command.{Command}
 use Rattle.tp_ops.specs.Parts.{is_accessed}
 use Rattle.tp_quorum.specs.Choice.{present, fast_choice}
@@ -16,14 +19,15 @@ use Rattle.tp_quorum.specs.declared.choice.FastChoice.{FastChoice}
 use Rattle.tp_quorum.specs.declared.choice.FastChoice.TheVariants.{Fast, Slow}
 use Rattle.tp_rules.specs.Acts.{Act, Took, Did}
 use Rattle.tp_rules.specs.Addresses.{site, message, to_each, others_accessed, accessed, processes_of, executors_of, rank_of, is_name_of, is_body_at}
-use Rattle.tp_rules.specs.Sheet.{Sheet, Setting, blank, stamp_of, is_fresh, command_or, kept, with_proposal, can_acknowledge, acknowledged, acknowledged_own, is_full, putting, can_accept, with_accepted, can_vote, with_vote, has_consensus, with_stamp, final_stamp}
+use Rattle.tp_rules.specs.Sheet.{Sheet, Setting, blank, stamp_of, is_fresh, command_or, kept, with_proposal, can_acknowledge, acknowledged, acknowledged_own, is_full, putting, can_accept, with_accepted, can_vote, with_vote, has_consensus, made_of, stamp_told, is_untouched, with_ballot, trying, can_answer, with_answer, is_recovered, with_stamp, final_stamp}
 use Rattle.tp_rules.specs.declared.event.Inner.{Inner}
-use Rattle.tp_rules.specs.declared.event.Inner.TheVariants.{Announce}
+use Rattle.tp_rules.specs.declared.event.Inner.TheVariants.{Announce, Recover}
+use Rattle.tp_topology.specs.Ballots.{next_ballot}
 use Rattle.tp_topology.specs.Counting.{up_to}
 use Rattle.tp_topology.specs.Shape.{Shape}
 use Rattle.tp_topology.specs.Stability.{attached_to}
 use Rattle.tp_wire.specs.declared.message.Body.{Body}
-use Rattle.tp_wire.specs.declared.message.Body.TheVariants.{MSubmit, MPropose, MPayload, MProposeAck, MBump, MConsensus, MConsensusAck, MCommit, MPromises, MCommitted}
+use Rattle.tp_wire.specs.declared.message.Body.TheVariants.{MSubmit, MPropose, MPayload, MProposeAck, MBump, MConsensus, MConsensusAck, MCommit, MRec, MRecAck, MPromises, MCommitted}
 use Rattle.tp_wire.specs.declared.message.Message.{Message}
 
 -- stamps and ballots stay below this
@@ -190,6 +194,60 @@ on_commit s me c q t state = cond (is_accessed s.shape.partitions c q)
     (learned s.shape me c.id q t (kept c (state.sheets c.id)) state)
     (state, [])
 
+-- MRec, where the partition's stamp is known: it is told to the sender
+abbrev pub told : Site → ActorName → Option Command → ℕ → List Message
+told me from None t = []
+told me from (Some c) t = message (Process me) from (MCommit c me.partition (record { 0 = t })) ∷ []
+
+abbrev pub answer : Site → ActorName → CommandId → ℕ → Sheet → Message
+answer me from id b sheet = message (Process me) from (MRecAck id (record { 0 = stamp_told sheet }) (made_of sheet.proposal) sheet.accepted_ballot b)
+
+-- MRec, where a proposal is made first
+abbrev pub proposed_late : Setting → Site → ActorName → Command → ℕ → ℕ → Sheet → ProcessState → Moved
+proposed_late s me from c b t sheet state =
+    let new = with_ballot b (with_proposal t Recovery (kept c sheet)) in
+    (proposing c.id t new state, answer me from c.id b new ∷ bumps s.shape me (command_or c sheet) t)
+
+abbrev pub agreed : Site → ActorName → Command → ℕ → Sheet → ProcessState → Moved
+agreed me from c b sheet state =
+    let new = with_ballot b (kept c sheet) in
+    (with_sheet c.id new state, answer me from c.id b new ∷ [])
+
+abbrev pub joined : Setting → Site → ActorName → Command → ℕ → Sheet → ProcessState → Moved
+joined s me from c b sheet state = cond (is_untouched sheet)
+    (proposed_late s me from c b (next_stamp 0 state) sheet state)
+    (agreed me from c b sheet state)
+
+abbrev pub on_rec_by : Setting → Site → ActorName → Command → ℕ → Option ℕ → ProcessState → Moved
+on_rec_by s me from c b (Some t) state = (state, told me from (state.sheets c.id).command t)
+on_rec_by s me from c b None state = cond (nat_lt (state.sheets c.id).ballot b && nat_lt b LIMIT)
+    (joined s me from c b (state.sheets c.id) state)
+    (state, [])
+
+-- MRec(c, b): by whether the partition's stamp is known, and where it isn't, the ballot is below b and b is below the limit
+abbrev pub on_rec : Setting → Site → ActorName → Command → ℕ → ProcessState → Moved
+on_rec s me from c b state = on_rec_by s me from c b (stamp_of (state.sheets c.id) me.partition.0) state
+
+-- the stamp that the answers lead to is put to the vote
+abbrev pub put_recovered : Shape → Site → CommandId → ℕ → Option Command → Sheet → ProcessState → Moved
+put_recovered shape me id b None sheet state = (with_sheet id sheet state, [])
+put_recovered shape me id b (Some c) sheet state =
+    let t = recovery_choice shape c.home.0 (present sheet.answers) in
+    (with_sheet id (putting shape b t sheet) state, put_to_vote shape me b t (Some c))
+
+abbrev pub recovered : Shape → Site → CommandId → ℕ → Sheet → ProcessState → Moved
+recovered shape me id b sheet state = cond (is_recovered shape sheet)
+    (put_recovered shape me id b sheet.command sheet state)
+    (with_sheet id sheet state, [])
+
+-- MRecAck(id, t, made, a, b) from a rank, where its answer is taken
+abbrev pub on_rec_ack : Setting → Site → ActorName → CommandId → ℕ → Made → ℕ → ℕ → ProcessState → Moved
+on_rec_ack s me from id t made a b state =
+    let new : RecoveryAnswer = record { rank = record { 0 = rank_of from }; stamp = record { 0 = t }; made = made; accepted = a } in
+    cond (can_answer me.partition.0 b (rank_of from) (state.sheets id))
+    (recovered s.shape me id b (with_answer new (state.sheets id)) state)
+    (state, [])
+
 -- the attached promises above those told, ascending
 abbrev pub untold : ProcessState → List Pair
 untold state = reverse (filter (λ pair. nat_lt state.told pair.stamp.0) state.attached)
@@ -204,6 +262,26 @@ on_announce shape me state = cond (nat_lt state.told state.clock)
     (record { clock = state.clock; told = state.clock; attached = state.attached; sheets = state.sheets }, announced shape me state)
     (state, [])
 
+-- Recover, at a ballot: all ranks are asked
+abbrev pub asked : Shape → Site → ℕ → Option Command → List Message
+asked shape me b None = []
+asked shape me b (Some c) = to_each (Process me) (processes_of shape me.partition.0) (MRec c b)
+
+abbrev pub recovering : Shape → Site → CommandId → ℕ → Sheet → ProcessState → Moved
+recovering shape me id b sheet state = (with_sheet id (trying shape b sheet) state, asked shape me b sheet.command)
+
+-- whether a next ballot of a sheet has room
+abbrev pub has_next : Sheet → Bool
+has_next sheet = nat_lt sheet.ballot (LIMIT - 8) && nat_lt sheet.tried (LIMIT - 8)
+
+-- Recover(id), where the command is kept and the partition's stamp isn't known
+abbrev pub on_recover : Shape → Site → CommandId → ProcessState → Moved
+on_recover shape me id state =
+    let sheet = state.sheets id in
+    cond (is_some sheet.command && is_none (stamp_of sheet me.partition.0) && has_next sheet)
+    (recovering shape me id (next_ballot shape me.rank.0 sheet.ballot sheet.tried) sheet state)
+    (state, [])
+
 -- the rule of each kind of message
 abbrev pub on_body : Setting → Site → ActorName → Body → ProcessState → Moved
 on_body s me from (MSubmit c) state = on_submit s me c state
@@ -214,6 +292,8 @@ on_body s me from (MBump id t) state = on_bump t.0 state
 on_body s me from (MConsensus c t b) state = on_consensus me from c t.0 b state
 on_body s me from (MConsensusAck id b) state = on_consensus_ack s me from id b state
 on_body s me from (MCommit c q t) state = on_commit s me c q.0 t.0 state
+on_body s me from (MRec c b) state = on_rec s me from c b state
+on_body s me from (MRecAck id t made a b) state = on_rec_ack s me from id t.0 made a b state
 on_body s me from _ state = (state, [])
 
 -- a step that would bring the clock to the limit changes nothing and sends nothing
@@ -229,6 +309,7 @@ on_message s me m state =
 
 abbrev pub on_inner : Setting → Site → Inner → ProcessState → Moved
 on_inner s me Announce state = on_announce s.shape me state
+on_inner s me (Recover id) state = on_recover s.shape me id state
 on_inner s me _ state = (state, [])
 
 abbrev pub react : Setting → Site → Act → ProcessState → Moved

@@ -1,5 +1,5 @@
 -- What a process keeps of one command.
-use Rattle.std.specs.Prelude.{ℕ, ◌==◌, ◌&&◌, nat_le, nat_lt, Bool, true, false, cond, List, Option, Some, None, is_none, is_some, length, map, replicate, unwrap_or}
+use Rattle.std.specs.Prelude.{ℕ, ◌==◌, ◌&&◌, nat_le, nat_lt, not, Bool, true, false, cond, List, Option, Some, None, is_none, is_some, length, map, replicate, unwrap_or}
 use Rattle.std.specs.List.{list_all}
 use Rattle.tp_base.specs.declared.names.Made.{Made}
 use Rattle.tp_base.specs.declared.names.Made.TheVariants.{Proposal, Recovery}
@@ -9,7 +9,7 @@ use Rattle.tp_paxos.specs.Votes.{count_votes}
 use Rattle.tp_quorum.specs.Choice.{present, greatest}
 use Rattle.tp_rules.specs.Addresses.{accessed}
 use Rattle.tp_rules.specs.Tables.{with_nth, kept_at}
-use Rattle.tp_topology.specs.Shape.{Shape, in_ring, fast_size, slow_size}
+use Rattle.tp_topology.specs.Shape.{Shape, in_ring, fast_size, slow_size, recovery_size}
 
 -- what the rules take of the store's shape, and which ranks are of a command's fast quorum
 pub record Setting : Type 0 where
@@ -129,6 +129,42 @@ with_vote rank sheet = record sheet { votes = with_nth sheet.votes rank true }
 -- whether a consensus quorum has voted for what is put
 abbrev pub has_consensus : Shape → Sheet → Bool
 has_consensus shape sheet = nat_le (slow_size shape) (count_votes sheet.votes)
+
+abbrev pub stamp_proposed : Option Proposed → ℕ
+stamp_proposed None = 0
+stamp_proposed (Some p) = p.stamp
+
+-- how the proposal was made; as a proposal, where there is none
+abbrev pub made_of : Option Proposed → Made
+made_of None = Proposal
+made_of (Some p) = p.made
+
+-- what is told to a recovery: the stamp accepted, where one was, else the one proposed
+abbrev pub stamp_told : Sheet → ℕ
+stamp_told sheet = cond (nat_lt 0 sheet.accepted_ballot) sheet.accepted_stamp (stamp_proposed sheet.proposal)
+
+-- whether a recovery has to propose first
+abbrev pub is_untouched : Sheet → Bool
+is_untouched sheet = is_none sheet.proposal && (sheet.ballot == 0)
+
+abbrev pub with_ballot : ℕ → Sheet → Sheet
+with_ballot b sheet = record sheet { ballot = b }
+
+-- with a ballot tried, without answers
+abbrev pub trying : Shape → ℕ → Sheet → Sheet
+trying shape b sheet = record sheet { tried = b; answers = replicate shape.replicas None }
+
+-- whether the process of a partition takes the answer of a rank to its recovery at a ballot
+abbrev pub can_answer : ℕ → ℕ → ℕ → Sheet → Bool
+can_answer p b rank sheet =
+    is_none (stamp_of sheet p) && (sheet.tried == b) && not (sheet.putting_ballot == b) && is_none (kept_at sheet.answers rank)
+
+abbrev pub with_answer : RecoveryAnswer → Sheet → Sheet
+with_answer a sheet = record sheet { answers = with_nth sheet.answers a.rank.0 (Some a) }
+
+-- whether just a recovery quorum has answered
+abbrev pub is_recovered : Shape → Sheet → Bool
+is_recovered shape sheet = length (present sheet.answers) == recovery_size shape
 
 abbrev pub with_stamp : ℕ → ℕ → Sheet → Sheet
 with_stamp q t sheet = record sheet { known = with_nth sheet.known q (Some t) }

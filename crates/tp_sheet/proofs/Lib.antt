@@ -1,3 +1,4 @@
 pub mod Present
 pub mod Tables
 pub mod Known
+pub mod Listed

@@ -1,12 +1,18 @@
 -- A sheet with the site that keeps it, and what a call makes of it.
-use Rattle.std.specs.Prelude.{ℕ, ◌≤◌, ◌&&◌, Bool, cond, Option, Some, None, is_some}
+use Rattle.std.specs.Prelude.{ℕ, ◌≤◌, ◌&&◌, Bool, cond, Option, Some, None, is_none, is_some}
 use Rattle.std.specs.Option.{option_map}
+use Rattle.tp_base.specs.declared.names.Rank.{Rank}
 use Rattle.tp_base.specs.declared.names.Site.{Site}
+use Rattle.tp_choice.specs.Choosing.{recovery_choice}
+use Rattle.tp_choice.specs.declared.answer.RecoveryAnswer.{RecoveryAnswer}
+use Rattle.tp_ops.specs.declared.command.Command.{Command}
 use Rattle.tp_quorum.specs.Choice.{present, fast_choice}
 use Rattle.tp_quorum.specs.declared.choice.FastChoice.{FastChoice}
 use Rattle.tp_quorum.specs.declared.choice.FastChoice.TheVariants.{Fast, Slow}
 use Rattle.tp_rules.specs.Addresses.{is_between}
-use Rattle.tp_rules.specs.Sheet.{Sheet, blank, can_acknowledge, acknowledged, acknowledged_own, is_full, putting, can_vote, with_vote, has_consensus, ring_setting, stamp_of, with_stamp, final_stamp}
+use Rattle.tp_rules.specs.Process.{has_next}
+use Rattle.tp_rules.specs.Sheet.{Sheet, blank, can_acknowledge, acknowledged, acknowledged_own, is_full, putting, can_vote, with_vote, has_consensus, made_of, stamp_told, trying, can_answer, with_answer, is_recovered, ring_setting, stamp_of, with_stamp, final_stamp}
+use Rattle.tp_topology.specs.Ballots.{next_ballot}
 use Rattle.tp_topology.specs.Shape.{Shape}
 
 -- what the process of a site keeps of one command
@@ -81,6 +87,63 @@ decision_by rank b kept = cond (takes_vote rank b kept) (decision_of kept.shape 
 -- with a rank's vote, where it counts
 abbrev pub with_vote_of : ℕ → ℕ → SiteSheet → SiteSheet
 with_vote_of rank b kept = with_sheet (cond (takes_vote rank b kept) (with_vote rank kept.sheet) kept.sheet) kept
+
+-- what is told to a recovery
+abbrev pub answer_of : SiteSheet → RecoveryAnswer
+answer_of kept = record {
+  rank = kept.site.rank;
+  stamp = record { 0 = stamp_told kept.sheet };
+  made = made_of kept.sheet.proposal;
+  accepted = kept.sheet.accepted_ballot;
+}
+
+-- the ballot of a recovery, where a command is kept, the site's partition has no stamp yet, and there is room for it
+abbrev pub ballot_by : SiteSheet → Option ℕ
+ballot_by kept = cond (is_some kept.sheet.command && is_none (stamp_of kept.sheet kept.site.partition.0) && has_next kept.sheet)
+    (Some (next_ballot kept.shape kept.site.rank.0 kept.sheet.ballot kept.sheet.tried))
+    None
+
+abbrev pub trying_at : Shape → Option ℕ → Sheet → Sheet
+trying_at shape None sheet = sheet
+trying_at shape (Some b) sheet = trying shape b sheet
+
+-- with that ballot tried
+abbrev pub with_try : SiteSheet → SiteSheet
+with_try kept = with_sheet (trying_at kept.shape (ballot_by kept) kept.sheet) kept
+
+-- whether the answer of a rank of the shape counts here, at a ballot
+abbrev pub takes_answer : ℕ → ℕ → SiteSheet → Bool
+takes_answer rank b kept = is_between rank kept.shape.replicas && can_answer kept.site.partition.0 b rank kept.sheet
+
+-- the home of a command, where it is a rank of the shape
+abbrev pub home_of : Shape → Option Command → Option Rank
+home_of shape None = None
+home_of shape (Some c) = cond (is_between c.home.0 shape.replicas) (Some c.home) None
+
+-- what the answers lead to, by the command's home
+abbrev pub recovery_of : Shape → Sheet → Option Rank → Option ℕ
+recovery_of shape sheet None = None
+recovery_of shape sheet (Some home) = Some (recovery_choice shape home.0 (present sheet.answers))
+
+-- where just a recovery quorum has answered
+abbrev pub recovery_where_full : Shape → Sheet → Option ℕ
+recovery_where_full shape sheet = cond (is_recovered shape sheet) (recovery_of shape sheet (home_of shape sheet.command)) None
+
+abbrev pub putting_at : Shape → ℕ → Option ℕ → Sheet → Sheet
+putting_at shape b None sheet = sheet
+putting_at shape b (Some t) sheet = putting shape b t sheet
+
+-- the stamp that an answer leads to
+abbrev pub recovery_by : RecoveryAnswer → ℕ → SiteSheet → Option ℕ
+recovery_by a b kept = cond (takes_answer a.rank.0 b kept) (recovery_where_full kept.shape (with_answer a kept.sheet)) None
+
+-- with an answer, where it counts, and what it leads to put to the vote
+abbrev pub with_answer_of : RecoveryAnswer → ℕ → SiteSheet → SiteSheet
+with_answer_of a b kept = with_sheet
+    (cond (takes_answer a.rank.0 b kept)
+    (putting_at kept.shape b (recovery_by a b kept) (with_answer a kept.sheet))
+    kept.sheet)
+    kept
 
 -- with a partition's stamp, where it was not known
 abbrev pub with_known : ℕ → ℕ → SiteSheet → SiteSheet

@@ -1,6 +1,8 @@
 -- What a contract sees of the code's sheet.
-use Rattle.std.specs.Prelude.{◌≤◌, take}
+use Rattle.std.specs.Prelude.{◌≤◌, ℕ, Option, Some, None, take}
 use Rattle.std.specs.Option.{option_map}
+use Rattle.tp_base.specs.Lists.{Each}
+use Rattle.tp_choice.specs.declared.answer.RecoveryAnswer.{RecoveryAnswer}
 use Rattle.tp_sheet.specs.SiteSheet.{SiteSheet, IsSiteOf}
 use Rattle.tp_sheet.specs.declared.sheet.Sheet.TheInside.{Inside}
 
@@ -25,8 +27,14 @@ view_of s = record {
   };
 }
 
--- the tables have room for each partition and each replica, and the site is one of them
+-- of a rank up to so many, if any
+abbrev pub IsRanked : ℕ → Option RecoveryAnswer → Type 0
+IsRanked replicas None = Unit {0}
+IsRanked replicas (Some a) = (1 ≤ a.rank.0) × (a.rank.0 ≤ replicas)
+
+-- the tables have room for each partition and each replica, the site is one of them, and so are the ranks that answered
 pub record IsSheet (s : Inside) : Type 0 where
   pub few_partitions : s.topology.partitions ≤ 4
   pub few_replicas : s.topology.replicas ≤ 7
   pub site : IsSiteOf s.topology s.site
+  pub answers : Each (IsRanked s.topology.replicas) s.answers

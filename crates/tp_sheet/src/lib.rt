@@ -2,6 +2,7 @@
 #![tactic(auto)]
 
 mod access;
+mod answers;
 mod gathered;
 mod sheet;
 #[cfg(test)]

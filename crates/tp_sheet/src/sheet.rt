@@ -1,18 +1,27 @@
-ghost use Rattle.std.specs.Prelude.{◌≡◌, ◌≤◌, is_some, length, map};
+ghost use Rattle.std.specs.Prelude.{◌≡◌, ◌≤◌, ◌&&◌, true, is_none, is_some, length, map};
 ghost use Rattle.std.specs.Option.{option_copied, option_map};
-ghost use Rattle.tp_rules.specs.Sheet.{kept, with_proposal, is_fresh, can_acknowledge, acknowledged, can_accept, with_accepted, can_vote, with_vote, with_stamp, is_member, is_made_by_proposal, putting, ring_setting, stamp_of, greatest_known as greatest_of_known};
+ghost use Rattle.tp_rules.specs.Sheet.{kept, with_proposal, is_fresh, can_acknowledge, acknowledged, can_accept, with_accepted, can_vote, with_vote, is_untouched, with_ballot, made_of, stamp_told, trying, can_answer, with_answer, with_stamp, is_member, is_made_by_proposal, putting, ring_setting, stamp_of, greatest_known as greatest_of_known};
+ghost use Rattle.tp_base.specs.Lists.{Each};
+ghost use Rattle.tp_rules.specs.Process.{has_next};
 ghost use Rattle.tp_rules.specs.Addresses.{accessed, is_between};
 ghost use Rattle.tp_rules.specs.Tables.{kept_at as place_of};
-ghost use Rattle.tp_sheet.specs.SiteSheet.{IsSiteOf, blank_at, with_sheet, proposal_of, with_own, choice_where_full, choice_by, with_acknowledgement, decision_of, decision_by, with_vote_of, with_known, final_of, final_by};
+ghost use Rattle.tp_sheet.specs.SiteSheet.{IsSiteOf, blank_at, with_sheet, proposal_of, with_own, choice_where_full, choice_by, with_acknowledgement, decision_of, decision_by, with_vote_of, with_known, final_of, final_by, answer_of, ballot_by, with_try, home_of, recovery_where_full, recovery_by, with_answer_of};
+ghost use Rattle.tp_sheet.specs.View.{IsRanked};
+ghost use Rattle.tp_topology.specs.Ballots.{next_ballot as next_ballot_of};
 
 use crate::access::accesses;
+use crate::answers::{NO_ANSWER, gather};
 use crate::gathered::{count, count_votes, fast_choice};
 use std::marker::Model;
 use tp_base::{Made, PartitionId, Rank, Site, Stamp};
-use tp_choice::RecoveryAnswer;
+use tp_choice::{RecoveryAnswer, choose};
 use tp_ops::Command;
+use tp_paxos::next_ballot;
 use tp_quorum::FastChoice;
 use tp_topology::Topology;
+
+/// Ballots below this have a next one.
+const BALLOTS: u64 = (1 << 48) - 8;
 
 /// What the process of a site keeps of one command: the tables by partition and by rank have a place
 /// for each, from the first on.
@@ -158,7 +167,7 @@ impl Sheet {
         self.add_acknowledgement(rank, stamp);
         let choice = self.choice();
         if let Some(FastChoice::Slow(top)) = choice {
-            self.put(top);
+            self.put(u64::from(self.site.rank.0), top);
         }
         choice
     }
@@ -193,6 +202,69 @@ impl Sheet {
         self.decision()
     }
 
+    /// Whether there is no proposal and no ballot.
+    pub fn is_untouched(&self) -> bool
+        ensures { result ≡ is_untouched self.now.sheet }
+    {
+        self.proposal.is_none() && self.ballot == 0
+    }
+
+    /// The greatest ballot that was agreed to.
+    pub fn ballot(&self) -> u64
+        ensures { result ≡ self.now.sheet.ballot }
+    {
+        self.ballot
+    }
+
+    /// Agrees to a ballot.
+    pub fn agree(&mut self, ballot: u64)
+        ensures { self.new ≡ with_sheet (with_ballot ballot self.old.sheet) self.old }
+    {
+        self.ballot = ballot;
+    }
+
+    /// What is told to a recovery: the stamp that was accepted, or else the one that was proposed.
+    pub fn told(&self) -> RecoveryAnswer
+        ensures { result ≡ answer_of self.now }
+    {
+        RecoveryAnswer {
+            rank: self.site.rank,
+            stamp: self.stamp_told(),
+            made: self.made(),
+            accepted: self.accepted_ballot,
+        }
+    }
+
+    /// Tries the next ballot, without answers, where the command can be recovered, and gives it.
+    pub fn recover(&mut self) -> Option<u64>
+        ensures ballot { result ≡ ballot_by self.old }
+        ensures tried { self.new ≡ with_try self.old }
+    {
+        if !self.can_recover() {
+            return None;
+        }
+        let ballot = self.next_ballot();
+        self.attempt(ballot);
+        Some(ballot)
+    }
+
+    /// Takes a rank's answer at the ballot that is tried, and gives the choice where just a recovery
+    /// quorum has answered with it. The choice is put to the vote at that ballot.
+    pub fn answer(&mut self, answer: RecoveryAnswer, ballot: u64) -> Option<Stamp>
+        ensures choice { option_map (λ t. t.0) result ≡ recovery_by answer ballot self.old }
+        ensures taken { self.new ≡ with_answer_of answer ballot self.old }
+    {
+        if !(self.has_rank(answer.rank) && self.can_answer(answer.rank, ballot)) {
+            return None;
+        }
+        self.add_answer(answer);
+        let choice = self.recovery();
+        if let Some(stamp) = choice {
+            self.put(ballot, stamp);
+        }
+        choice
+    }
+
     /// Learns the stamp of a partition where it is not known, and gives the final stamp where those
     /// of all the command's partitions are known with it.
     pub fn learn(&mut self, partition: PartitionId, stamp: Stamp) -> Option<Stamp>
@@ -206,6 +278,118 @@ impl Sheet {
         }
         self.set_stamp(partition, stamp);
         self.final_stamp()
+    }
+
+    fn stamp_told(&self) -> Stamp
+        ensures { result.0 ≡ stamp_told self.now.sheet }
+    {
+        if 0 < self.accepted_ballot {
+            return Stamp(self.accepted_stamp);
+        }
+        match self.proposal {
+            None => Stamp(0),
+            Some(proposed) => Stamp(proposed.stamp),
+        }
+    }
+
+    fn made(&self) -> Made
+        ensures { result ≡ made_of self.now.sheet.proposal }
+    {
+        match self.proposal {
+            None => Made::Proposal,
+            Some(proposed) => proposed.made,
+        }
+    }
+
+    fn can_recover(&self) -> bool
+        ensures { result ≡ (is_some self.now.sheet.command && is_none (stamp_of self.now.sheet self.now.site.partition.0) && has_next self.now.sheet) }
+    {
+        self.command.is_some()
+            && !self.knows(self.site.partition)
+            && self.ballot < BALLOTS
+            && self.tried < BALLOTS
+    }
+
+    fn next_ballot(&self) -> u64
+        requires { has_next self.now.sheet ≡ true }
+        ensures { result ≡ next_ballot_of self.now.shape self.now.site.rank.0 self.now.sheet.ballot self.now.sheet.tried }
+    {
+        next_ballot(&self.topology, self.own_rank(), self.ballot, self.tried)
+    }
+
+    fn attempt(&mut self, ballot: u64)
+        ensures { self.new ≡ with_sheet (trying self.old.shape ballot self.old.sheet) self.old }
+    {
+        self.tried = ballot;
+        self.answers = [None; 7];
+    }
+
+    fn answers(&self) -> &[Option<RecoveryAnswer>]
+        ensures table { result.now ≡ self.now.sheet.answers }
+        ensures few { length result.now ≤ 7 }
+        ensures ranks { Each (IsRanked self.now.shape.replicas) result.now }
+    {
+        &self.answers[..usize::from(self.topology.replicas())]
+    }
+
+    fn has_answered(&self, rank: Rank) -> bool
+        ensures { result ≡ is_some (place_of self.now.sheet.answers rank.0) }
+    {
+        if rank.0 == 0 {
+            return false;
+        }
+        match self.answers().get(usize::from(rank.0) - 1) {
+            Some(answer) => answer.is_some(),
+            None => false,
+        }
+    }
+
+    fn can_answer(&self, rank: Rank, ballot: u64) -> bool
+        ensures { result ≡ can_answer self.now.site.partition.0 ballot rank.0 self.now.sheet }
+    {
+        !self.knows(self.site.partition)
+            && self.tried == ballot
+            && self.putting_ballot != ballot
+            && !self.has_answered(rank)
+    }
+
+    fn add_answer(&mut self, answer: RecoveryAnswer)
+        requires some { 1 ≤ answer.rank.0 }
+        requires few { answer.rank.0 ≤ self.old.shape.replicas }
+        ensures { self.new ≡ with_sheet (with_answer answer self.old.sheet) self.old }
+    {
+        self.answers[usize::from(answer.rank.0) - 1] = Some(answer);
+    }
+
+    /// The home of the command that is kept, where it is a rank of the shape.
+    fn home(&self) -> Option<Rank>
+        ensures { result ≡ home_of self.now.shape self.now.sheet.command }
+    {
+        match &self.command {
+            None => None,
+            Some(command) => {
+                if self.has_rank(command.home) {
+                    Some(command.home)
+                } else {
+                    None
+                }
+            }
+        }
+    }
+
+    /// What the answers lead to, where just a recovery quorum has answered.
+    fn recovery(&self) -> Option<Stamp>
+        ensures { option_map (λ t. t.0) result ≡ recovery_where_full self.now.shape self.now.sheet }
+    {
+        let mut gathered = [NO_ANSWER; 7];
+        let count = gather(self.answers(), &mut gathered);
+        if count != usize::from(self.topology.recovery_size()) {
+            return None;
+        }
+        match self.home() {
+            None => None,
+            Some(home) => Some(choose(&self.topology, home, &gathered[..count])),
+        }
     }
 
     fn own_rank(&self) -> Rank
@@ -333,11 +517,11 @@ impl Sheet {
         }
     }
 
-    /// Puts a stamp to the vote, at the own rank as ballot and without votes.
-    fn put(&mut self, stamp: Stamp)
-        ensures { self.new ≡ with_sheet (putting self.old.shape self.old.site.rank.0 stamp.0 self.old.sheet) self.old }
+    /// Puts a stamp to the vote at a ballot, without votes.
+    fn put(&mut self, ballot: u64, stamp: Stamp)
+        ensures { self.new ≡ with_sheet (putting self.old.shape ballot stamp.0 self.old.sheet) self.old }
     {
-        self.putting_ballot = u64::from(self.site.rank.0);
+        self.putting_ballot = ballot;
         self.putting_stamp = stamp.0;
         self.votes = [false; 7];
     }

@@ -1,8 +1,9 @@
-use Rattle.std.proofs.Common.{Some, sym, ap, subst, ◌∙◌}
+use Rattle.std.proofs.Common.{ℕ, Some, sym, ap, subst, ◌∙◌}
 use Rattle.tp_base.proofs.Options.{when}
 use Rattle.tp_process.proofs.Counting.{counts_fast, counts_none, counts_slow}
 use Rattle.tp_process.proofs.Learning.{sheet_here}
 use Rattle.tp_process.proofs.Outcomes.{if_ok, on_any}
+use Rattle.tp_process.specs.Sheets.{sheet_at}
 use Rattle.tp_process.specs.State.{IsState}
 use Rattle.tp_quorum.specs.declared.choice.FastChoice.{FastChoice}
 use Rattle.tp_rules.specs.Process.{Moved, put_to_vote}
@@ -36,6 +37,7 @@ returns-in-Some-Slow-clause-outputs c =
     let counts = counts_slow _ _ _ _ _ _ _ _ _ c.args.id s c.acknowledge.ensures.changed stands within low top choice in
     let here = sheet_here _ _ _ _ _ _ c.args.id (putting place.topology place.site.rank.0 top.0 (acknowledged c.args.rank.0 c.args.stamp.0 (s.sheets c.args.id))) s counts.1 in
     put
+    ∙ ap (λ (b : ℕ). put_to_vote place.topology place.site b top.0 (sheet_at place.topology place.site c.acknowledge.new.sheets c.args.id).sheet.command) c.from.ensures
     ∙ ap (λ (kept : SiteSheet). put_to_vote place.topology place.site place.site.rank.0 top.0 kept.sheet.command) here
     ∙ ap (λ (m : Moved). m.1) (sym counts.0))
     c.put_to_vote.ensures

@@ -14,7 +14,7 @@ returns-clause-outputs c = λ s stands low.
     let place = c.args.self.now.place in
     let accessed : is_accessed place.topology.partitions command c.args.partition.0 ≡ true =
     ap (λ (m : ℕ). is_accessed m command c.args.partition.0) (sym c.partitions.ensures.value) ∙ sym c.accesses.ensures ∙ c.if-not-accesses.false in
-    let kept_now = keeps _ _ _ _ _ _ command s stands _ _ c.in_ok-copy.ensures c.in_ok-keep.ensures in
+    let kept_now = keeps _ _ _ _ _ _ command s stands _ _ c.requires.command c.in_ok-copy.ensures c.in_ok-keep.ensures in
     c.in_ok-learn.ensures.outputs s (kept command (s.sheets command.id)) kept_now low
     ∙ ap (λ (sent : List Message). sent ++ (learned place.topology place.site command.id c.args.partition.0 c.args.stamp.0 (kept command (s.sheets command.id)) s).1) c.nothing-outputs.ensures
     ∙ ap (λ (m : Moved). m.1) (sym (commit_taken place.topology place.site command c.args.partition.0 c.args.stamp.0 s accessed))
@@ -25,7 +25,7 @@ returns-clause-state c = λ s stands low.
     let place = c.args.self.now.place in
     let accessed : is_accessed place.topology.partitions command c.args.partition.0 ≡ true =
     ap (λ (m : ℕ). is_accessed m command c.args.partition.0) (sym c.partitions.ensures.value) ∙ sym c.accesses.ensures ∙ c.if-not-accesses.false in
-    let kept_now = keeps _ _ _ _ _ _ command s stands _ _ c.in_ok-copy.ensures c.in_ok-keep.ensures in
+    let kept_now = keeps _ _ _ _ _ _ command s stands _ _ c.requires.command c.in_ok-copy.ensures c.in_ok-keep.ensures in
     subst (λ (m : Moved). IsState c.learn.new.self m.0)
     (sym (commit_taken place.topology place.site command c.args.partition.0 c.args.stamp.0 s accessed))
     (c.in_ok-learn.ensures.state s (kept command (s.sheets command.id)) kept_now low)

@@ -11,7 +11,7 @@ returns-clause-state c = λ s stands low.
     let t = c.next_stamp-stamp.result.0 in
     let takes = sym c.takes_proposal.ensures ∙ c.if-not-takes_proposal.false in
     let fits = stamp_fits _ _ _ _ _ _ command s stands floor t low c.next_stamp-stamp.ensures takes in
-    let kept = proposes_now _ _ _ _ _ _ command s stands _ _ t c.in_ok-copy.ensures c.in_ok-propose.ensures in
+    let kept = proposes_now _ _ _ _ _ _ command s stands _ _ t c.requires c.in_ok-copy.ensures c.in_ok-propose.ensures in
     subst (λ (m : Moved). IsState c.promise.new.self m.0)
     (sym (propose_taken _ _ _ _ _ _ command s stands c.args.from floor t low c.next_stamp-stamp.ensures takes))
     (c.in_ok-promise.ensures.state s _ kept fits.0 fits.1)

@@ -32,7 +32,7 @@ returns-clause-state c = λ s stands.
     let takes : takes_submission p command ≡ true = sym c.takes_submission.ensures.value ∙ c.if-not-takes_submission.false in
     let proposes = (and_parts (command.home.0 == p.place.site.rank.0) (takes_proposal p command) takes).1 in
     let fits = stamp_fits _ _ _ _ _ _ command s stands 0 t (omega arith) c.next_stamp-stamp.ensures proposes in
-    let kept = submits_now _ _ _ _ _ _ command s stands _ _ t c.in_ok-copy.ensures fits.1 c.in_ok-submit.ensures in
+    let kept = submits_now _ _ _ _ _ _ command s stands _ _ t c.requires c.in_ok-copy.ensures fits.1 c.in_ok-submit.ensures in
     subst (λ (m : Moved). IsState c.promise.new.self m.0)
     (sym (submit_taken _ _ _ _ _ _ command s stands t c.next_stamp-stamp.ensures takes))
     (c.in_ok-promise.ensures.state s _ kept fits.0 fits.1)

@@ -10,7 +10,7 @@ returns-in_default c =
     let p = c.args.self.now in
     let others = c.in_default in
     let idle : (s : ProcessState) → on_message (ring_setting p.place.topology) p.place.site c.args.message.now s ≡ (s, []) =
-    λ s. unheeded (ring_setting p.place.topology) p.place.site c.args.message.now s others.not-MSubmit others.not-MPropose others.not-MPayload others.not-MProposeAck others.not-MBump others.not-MConsensus others.not-MConsensusAck others.not-MCommit in
+    λ s. unheeded (ring_setting p.place.topology) p.place.site c.args.message.now s others.not-MSubmit others.not-MPropose others.not-MPayload others.not-MProposeAck others.not-MBump others.not-MConsensus others.not-MConsensusAck others.not-MCommit others.not-MRec others.not-MRecAck in
     record {
       identity = refl;
       outputs = λ s stands range. c.nothing-in_default.ensures ∙ ap (λ (m : Moved). m.1) (sym (idle s));

@@ -1,0 +1,11 @@
+use Rattle.std.proofs.Common.{sym, ap, ◌∙◌}
+use Rattle.tp_process.proofs.Blank.{blank-is_untouched}
+use Rattle.tp_process.proofs.Tables.{sheet_at-none}
+use Rattle.tp_rules.specs.Sheet.{is_untouched}
+use Rattle.tp_sheet.specs.SiteSheet.{SiteSheet}
+use Rattle.tp_process.proofs.sheets.is_untouched.Goals as goal
+
+pub returns-in-None : goal.returns-in-None
+returns-in-None c =
+    let none = sheet_at-none c.args.place.now.topology c.args.place.now.site c.args.sheets.now c.args.id (sym c.in-None.ensures.value) in
+    sym (ap (λ (kept : SiteSheet). is_untouched kept.sheet) none ∙ blank-is_untouched c.args.place.now.topology)

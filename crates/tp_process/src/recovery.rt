@@ -1,0 +1,243 @@
+ghost use Rattle.std.specs.Prelude.{◌≡◌, ◌<◌, ◌-◌, ◌∷◌, [], nat_lt, true, Option, None, IfOk, OnOk};
+ghost use Rattle.tp_process.specs.State.{IsState, identity, kept_of, takes_recovery};
+ghost use Rattle.tp_rules.specs.Addresses.{is_between, is_command_at, is_name_of, site};
+ghost use Rattle.tp_rules.specs.Process.{LIMIT as the_limit, ProcessState, agreed, answer as answer_in, asked, bumps, next_stamp, on_rec, on_rec_ack, on_rec_by, on_recover, proposed_late, told as told_in, with_room};
+ghost use Rattle.tp_rules.specs.Sheet.{command_or as kept_or, ring_setting};
+ghost use Rattle.tp_wire.specs.Ranges.{IsProcess};
+
+use crate::addresses::{processes_of, send_each};
+use crate::process::{LIMIT, Process};
+use crate::sheets::{
+    agree, answer, ballot_at, command_at, is_untouched, propose_late, recover, stamp_at, told,
+};
+use tp_base::{ActorName, CommandId, Duplicate, Made, NoMemory, Rank, Stamp};
+use tp_choice::RecoveryAnswer;
+use tp_ops::Command;
+use tp_rules::Outputs;
+use tp_wire::{Body, Message};
+
+impl Process {
+    /// The site recovers a command: all ranks are asked at the next ballot.
+    pub(crate) fn on_recover(&mut self, id: CommandId) -> Result<Outputs, NoMemory>
+        ensures identity { identity self.new ≡ identity self.old }
+        ensures outputs { IfOk result (λ outputs. (s : ProcessState) → IsState self.old s → outputs ≡ (on_recover self.old.place.topology self.old.place.site id s).1) }
+        ensures state { OnOk result ((s : ProcessState) → IsState self.old s → IsState self.new (on_recover self.old.place.topology self.old.place.site id s).0) }
+    {
+        match recover(&mut self.sheets, &self.place, id) {
+            Some(ballot) => self.ask(id, ballot),
+            None => Ok(self.nothing()),
+        }
+    }
+
+    /// A rank recovers a command at a ballot.
+    pub(crate) fn on_rec(
+        &mut self,
+        from: ActorName,
+        command: &Command,
+        ballot: u64,
+    ) -> Result<Outputs, NoMemory>
+        requires { is_command_at self.old.place.topology self.old.place.site.partition.0 command.now ≡ true }
+        ensures identity { identity self.new ≡ identity self.old }
+        ensures outputs { IfOk result (λ outputs. (s : ProcessState) → IsState self.old s → outputs ≡ (with_room s (on_rec (ring_setting self.old.place.topology) self.old.place.site from command.now ballot s)).1) }
+        ensures state { OnOk result ((s : ProcessState) → IsState self.old s → IsState self.new (with_room s (on_rec (ring_setting self.old.place.topology) self.old.place.site from command.now ballot s)).0) }
+    {
+        let partition = self.place.site.partition;
+        match stamp_at(&self.sheets, &self.place, command.id, partition) {
+            Some(stamp) => self.tell_stamp(from, command.id, stamp),
+            None => self.join(from, command, ballot),
+        }
+    }
+
+    /// A rank answers the own recovery.
+    pub(crate) fn on_rec_ack(
+        &mut self,
+        from: ActorName,
+        id: CommandId,
+        stamp: Stamp,
+        made: Made,
+        accepted: u64,
+        ballot: u64,
+    ) -> Result<Outputs, NoMemory>
+        requires { is_name_of self.old.place.topology from ≡ true }
+        ensures identity { identity self.new ≡ identity self.old }
+        ensures outputs { IfOk result (λ outputs. (s : ProcessState) → IsState self.old s → IsProcess from → stamp.0 < the_limit → outputs ≡ (on_rec_ack (ring_setting self.old.place.topology) self.old.place.site from id stamp.0 made accepted ballot s).1) }
+        ensures state { OnOk result ((s : ProcessState) → IsState self.old s → IsProcess from → stamp.0 < the_limit → IsState self.new (on_rec_ack (ring_setting self.old.place.topology) self.old.place.site from id stamp.0 made accepted ballot s).0) }
+    {
+        match from {
+            ActorName::Process(site) => {
+                let told = RecoveryAnswer {
+                    rank: site.rank,
+                    stamp,
+                    made,
+                    accepted,
+                };
+                self.count_answer(id, told, ballot)
+            }
+            ActorName::Executor(_) | ActorName::Session(_) => Ok(self.nothing()),
+        }
+    }
+
+    /// Counts a rank's answer: with the last of a recovery quorum, the choice is put to the vote.
+    fn count_answer(
+        &mut self,
+        id: CommandId,
+        told: RecoveryAnswer,
+        ballot: u64,
+    ) -> Result<Outputs, NoMemory>
+        ensures identity { identity self.new ≡ identity self.old }
+        ensures outputs { IfOk result (λ outputs. (s : ProcessState) → IsState self.old s → is_between told.rank.0 self.old.place.topology.replicas ≡ true → told.stamp.0 < the_limit → outputs ≡ (on_rec_ack (ring_setting self.old.place.topology) self.old.place.site (ActorName.Process (site 0 told.rank.0)) id told.stamp.0 told.made told.accepted ballot s).1) }
+        ensures state { OnOk result ((s : ProcessState) → IsState self.old s → is_between told.rank.0 self.old.place.topology.replicas ≡ true → told.stamp.0 < the_limit → IsState self.new (on_rec_ack (ring_setting self.old.place.topology) self.old.place.site (ActorName.Process (site 0 told.rank.0)) id told.stamp.0 told.made told.accepted ballot s).0) }
+    {
+        match answer(&mut self.sheets, &self.place, id, told, ballot) {
+            Some(stamp) => self.put_to_vote(id, ballot, stamp),
+            None => Ok(self.nothing()),
+        }
+    }
+
+    /// Answers a recovery at a ballot above the own one, with a proposal made first where there is
+    /// nothing to tell.
+    fn join(
+        &mut self,
+        from: ActorName,
+        command: &Command,
+        ballot: u64,
+    ) -> Result<Outputs, NoMemory>
+        requires { is_command_at self.old.place.topology self.old.place.site.partition.0 command.now ≡ true }
+        ensures identity { identity self.new ≡ identity self.old }
+        ensures outputs { IfOk result (λ outputs. (s : ProcessState) → IsState self.old s → outputs ≡ (with_room s (on_rec_by (ring_setting self.old.place.topology) self.old.place.site from command.now ballot None s)).1) }
+        ensures state { OnOk result ((s : ProcessState) → IsState self.old s → IsState self.new (with_room s (on_rec_by (ring_setting self.old.place.topology) self.old.place.site from command.now ballot None s)).0) }
+    {
+        if !self.takes_recovery(command, ballot) {
+            return Ok(self.nothing());
+        }
+        if !is_untouched(&self.sheets, &self.place, command.id) {
+            return self.agree(from, command, ballot);
+        }
+        if !self.has_room() {
+            return Ok(self.nothing());
+        }
+        self.propose_late(from, command, ballot)
+    }
+
+    fn agree(
+        &mut self,
+        from: ActorName,
+        command: &Command,
+        ballot: u64,
+    ) -> Result<Outputs, NoMemory>
+        requires { is_command_at self.old.place.topology self.old.place.site.partition.0 command.now ≡ true }
+        ensures identity { identity self.new ≡ identity self.old }
+        ensures outputs { IfOk result (λ outputs. (s : ProcessState) → IsState self.old s → outputs ≡ (agreed self.old.place.site from command.now ballot (s.sheets command.now.id) s).1) }
+        ensures state { OnOk result ((s : ProcessState) → IsState self.old s → IsState self.new (agreed self.old.place.site from command.now ballot (s.sheets command.now.id) s).0) }
+    {
+        agree(&mut self.sheets, &self.place, command.copy()?, ballot)?;
+        let mut outputs = self.nothing();
+        outputs.add(self.answer(from, command.id, ballot))?;
+        Ok(outputs)
+    }
+
+    fn propose_late(
+        &mut self,
+        from: ActorName,
+        command: &Command,
+        ballot: u64,
+    ) -> Result<Outputs, NoMemory>
+        requires command { is_command_at self.old.place.topology self.old.place.site.partition.0 command.now ≡ true }
+        requires room { nat_lt self.old.clock (the_limit - 1) ≡ true }
+        ensures identity { identity self.new ≡ identity self.old }
+        ensures outputs { IfOk result (λ outputs. (s : ProcessState) → IsState self.old s → outputs ≡ (proposed_late (ring_setting self.old.place.topology) self.old.place.site from command.now ballot (next_stamp 0 s) (s.sheets command.now.id) s).1) }
+        ensures state { OnOk result ((s : ProcessState) → IsState self.old s → IsState self.new (proposed_late (ring_setting self.old.place.topology) self.old.place.site from command.now ballot (next_stamp 0 s) (s.sheets command.now.id) s).0) }
+    {
+        let stamp = self.next_stamp(Stamp(0));
+        propose_late(
+            &mut self.sheets,
+            &self.place,
+            command.copy()?,
+            ballot,
+            stamp,
+        )?;
+        let outputs = self.late_answer(from, command, ballot, stamp)?;
+        self.promise(command.id, stamp)?;
+        Ok(outputs)
+    }
+
+    /// The answer to a recovery that a proposal was made for, with the bumps of the proposal.
+    fn late_answer(
+        &self,
+        from: ActorName,
+        command: &Command,
+        ballot: u64,
+        stamp: Stamp,
+    ) -> Result<Outputs, NoMemory>
+        ensures { IfOk result (λ outputs. outputs ≡ answer_in self.now.place.site from command.now.id ballot (kept_of self.now command.now.id).sheet ∷ bumps self.now.place.topology self.now.place.site (kept_or command.now (kept_of self.now command.now.id).sheet) stamp.0) }
+    {
+        let mut outputs = self.nothing();
+        outputs.add(self.answer(from, command.id, ballot))?;
+        self.tell_bumps(&mut outputs, command, stamp)?;
+        Ok(outputs)
+    }
+
+    fn answer(&self, from: ActorName, id: CommandId, ballot: u64) -> Message
+        ensures { result ≡ answer_in self.now.place.site from id ballot (kept_of self.now id).sheet }
+    {
+        let told = told(&self.sheets, &self.place, id);
+        Message {
+            from: self.place.name(),
+            to: from,
+            body: Body::MRecAck {
+                id,
+                stamp: told.stamp,
+                made: told.made,
+                accepted: told.accepted,
+                ballot,
+            },
+        }
+    }
+
+    fn takes_recovery(&self, command: &Command, ballot: u64) -> bool
+        ensures { result ≡ takes_recovery self.now command.now ballot }
+    {
+        ballot_at(&self.sheets, &self.place, command.id) < ballot && ballot < LIMIT
+    }
+
+    /// Tells the partition's stamp of a command to the one that recovers it.
+    fn tell_stamp(
+        &self,
+        from: ActorName,
+        id: CommandId,
+        stamp: Stamp,
+    ) -> Result<Outputs, NoMemory>
+        ensures { IfOk result (λ outputs. outputs ≡ told_in self.now.place.site from (kept_of self.now id).sheet.command stamp.0) }
+    {
+        let mut outputs = self.nothing();
+        if let Some(command) = command_at(&self.sheets, &self.place, id) {
+            outputs.add(Message {
+                from: self.place.name(),
+                to: from,
+                body: Body::MCommit {
+                    command: command.copy()?,
+                    partition: self.place.site.partition,
+                    stamp,
+                },
+            })?;
+        }
+        Ok(outputs)
+    }
+
+    /// Asks all ranks for what they know of a command, at a ballot.
+    fn ask(&self, id: CommandId, ballot: u64) -> Result<Outputs, NoMemory>
+        ensures { IfOk result (λ outputs. outputs ≡ asked self.now.place.topology self.now.place.site ballot (kept_of self.now id).sheet.command) }
+    {
+        let mut outputs = self.nothing();
+        if let Some(command) = command_at(&self.sheets, &self.place, id) {
+            let place = &self.place;
+            let names = processes_of(self.alloc, &place.topology, place.site.partition)?;
+            let body = Body::MRec {
+                command: command.copy()?,
+                ballot,
+            };
+            send_each(&mut outputs, place.name(), names.as_slice(), &body)?;
+        }
+        Ok(outputs)
+    }
+}
