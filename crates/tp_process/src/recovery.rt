@@ -96,12 +96,7 @@ impl Process {
 
     /// Answers a recovery at a ballot above the own one, with a proposal made first where there is
     /// nothing to tell.
-    fn join(
-        &mut self,
-        from: ActorName,
-        command: &Command,
-        ballot: u64,
-    ) -> Result<Outputs, NoMemory>
+    fn join(&mut self, from: ActorName, command: &Command, ballot: u64) -> Result<Outputs, NoMemory>
         requires { is_command_at self.old.place.topology self.old.place.site.partition.0 command.now ≡ true }
         ensures identity { identity self.new ≡ identity self.old }
         ensures outputs { IfOk result (λ outputs. (s : ProcessState) → IsState self.old s → outputs ≡ (with_room s (on_rec_by (ring_setting self.old.place.topology) self.old.place.site from command.now ballot None s)).1) }
@@ -201,12 +196,7 @@ impl Process {
     }
 
     /// Tells the partition's stamp of a command to the one that recovers it.
-    fn tell_stamp(
-        &self,
-        from: ActorName,
-        id: CommandId,
-        stamp: Stamp,
-    ) -> Result<Outputs, NoMemory>
+    fn tell_stamp(&self, from: ActorName, id: CommandId, stamp: Stamp) -> Result<Outputs, NoMemory>
         ensures { IfOk result (λ outputs. outputs ≡ told_in self.now.place.site from (kept_of self.now id).sheet.command stamp.0) }
     {
         let mut outputs = self.nothing();
