@@ -165,16 +165,20 @@ module _ (script : Script) (served : IsServed script) (older : List Entry) (hist
       of Crash is e = absurd cc
   may_make (Executor s) inner e =
       let found = executor_may script.topology s (executor.state_after script.topology s (acts older (Executor s))) inner e in
-      of inner found.0.key.id found.2 e
+      let unplanned : is_planned (OfItself inner) ≡ false = elim found.2 [
+        | inl declares ↦ ap (λ (i : Inner). is_planned (OfItself i)) declares.0
+        | inr executes ↦ ap (λ (i : Inner). is_planned (OfItself i)) executes.0
+      ] in
+      of inner unplanned e
     where
-      of : (i : Inner) (id : _) → i ≡ Execute id → enabled (identity_in script (Executor s)) (acts older (Executor s)) ≡ Some i
+      of : (i : Inner) → is_planned (OfItself i) ≡ false → enabled (identity_in script (Executor s)) (acts older (Executor s)) ≡ Some i
           → MayMake (identity_in script (Executor s)) (acts older (Executor s)) i × (is_planned (OfItself i) ≡ false)
-      of Announce id is e = absurd cc
-      of (Submit n) id is e = absurd cc
-      of (Recover c) id is e = absurd cc
-      of (Declare c) id is e = absurd cc
-      of (Execute c) id is e = (e, refl)
-      of Crash id is e = absurd cc
+      of Announce is e = (e, refl)
+      of (Submit n) is e = (e, refl)
+      of (Recover c) is e = absurd cc
+      of (Declare c) is e = (e, refl)
+      of (Execute c) is e = (e, refl)
+      of Crash is e = absurd cc
   may_make (Session s) inner e =
       let is = (session_may script.topology (client_of script s) (session.state_after script.topology (client_of script s) (acts older (Session s))) inner e).0 in
       of inner _ is e

@@ -1,20 +1,24 @@
 -- How an executor's fields go on with the state of the rules.
 use Rattle.std.proofs.Common.{◌≡◌, ◌⊎◌, ℕ, inl, inr, Bool, true, false, not, ◌||◌, cond, List, [], ◌∷◌, Option, Some, None, refl, sym, ap, subst, ◌∙◌}
-use Rattle.std.specs.Prelude.{filter}
+use Rattle.std.specs.Prelude.{◌==◌, filter}
 use Rattle.std.proofs.lemmas.Bool.{both_ways, or_from, or_parts}
+use Rattle.tp_base.specs.declared.names.ActorName.TheVariants.{Executor as ExecutorName}
 use Rattle.tp_base.specs.declared.names.CommandId.{CommandId}
+use Rattle.tp_base.specs.declared.names.Site.{Site}
 use Rattle.tp_base.specs.Lists.{IsIn, has}
 use Rattle.tp_base.specs.Names.{key_lt, same_id}
 use Rattle.tp_base.proofs.Each.{each_in}
 use Rattle.tp_base.proofs.Members.{in_has, map_in}
 use Rattle.tp_base.proofs.SameNames.{same_id_is, same_id_refl}
+use Rattle.tp_mstable.specs.Declarations.{Calls, Keeps}
+use Rattle.tp_mstable.specs.declared.declared.Declared.{Declared}
 use Rattle.tp_ops.specs.declared.command.Command.{Command}
 use Rattle.tp_ops.specs.Parts.{ops_on}
 use Rattle.tp_ops.specs.Store.{after_all}
-use Rattle.tp_rules.specs.Executor.{Committed, ExecutorState, Moved, committed_ids, execute_least, executed, least, lesser, on_committed, on_execute, waiting}
+use Rattle.tp_rules.specs.Executor.{Committed, ExecutorState, Moved, committed_ids, declare_least, declared, execute_least, executed, least, lesser, on_committed, on_declare, on_execute, on_stable, waiting}
 use Rattle.tp_executor.specs.Bindings.{value_of}
 use Rattle.tp_executor.specs.Known.{Known}
-use Rattle.tp_executor.specs.States.{IsState}
+use Rattle.tp_executor.specs.States.{IsState, calls_of}
 use Rattle.tp_executor.specs.declared.executor.Executor.{Executor}
 
 abbrev pub committed_with : ℕ → Command → Committed
@@ -23,8 +27,8 @@ committed_with t c = record { key = record { stamp = record { 0 = t }; id = c.id
 -- one more command is committed
 pub committed : (e e' : Executor) (c : Command) (t : ℕ) → has same_id c.id e.book.committed ≡ false
     → e'.book ≡ record { told = e.book.told; committed = c.id ∷ e.book.committed } → e'.queue ≡ committed_with t c ∷ e.queue → e'.store ≡ e.store
-    → (state : ExecutorState) → IsState e state → IsState e' (on_committed c t state).0
-committed e e' c t new book queue store state st =
+    → e'.declared ≡ e.declared → (state : ExecutorState) → IsState e state → IsState e' (on_committed c t state).0
+committed e e' c t new book queue store declared state st =
     let out : has same_id c.id (committed_ids state) ≡ false = ap (λ (ids : List CommandId). has same_id c.id ids) (sym st.committed) ∙ new in
     let waits : not (has same_id c.id state.executed) ≡ true = ap not (st.executed c.id out) in
     let later : ExecutorState = record state { committed = committed_with t c ∷ state.committed } in
@@ -34,7 +38,7 @@ committed e e' c t new book queue store state st =
       waiting = queue ∙ ap (λ (cs : List Committed). committed_with t c ∷ cs) st.waiting
           ∙ sym (ap (λ (b : Bool). cond b (committed_with t c ∷ waiting state) (waiting state)) waits);
       contents = ap value_of store ∙ st.contents;
-      declared = st.declared;
+      declared = subst (λ (d : Declared). Keeps d (calls_of state)) (sym declared) st.declared;
       executed = λ id apart. st.executed id (or_parts (same_id id c.id) (has same_id id (committed_ids state)) apart).1;
       keys = (refl, st.keys);
     } in
@@ -88,8 +92,8 @@ not_this other id ids known apart = go (same_id other id) refl
 pub executes : (e e' : Executor) (next : Committed) → least e.queue ≡ Some next → e'.book ≡ e.book
     → e'.queue ≡ filter (λ d. not (same_id d.key.id next.command.id)) e.queue
     → value_of e'.store ≡ after_all (ops_on e.topology.partitions e.site.partition.0 next.command.ops) (value_of e.store)
-    → (state : ExecutorState) → IsState e state → IsState e' (on_execute e.topology e.site state).0
-executes e e' next least_is book queue store state st =
+    → e'.declared ≡ e.declared → (state : ExecutorState) → IsState e state → IsState e' (on_execute e.topology e.site state).0
+executes e e' next least_is book queue store declared state st =
     let id = next.command.id in
     let first : least (waiting state) ≡ Some next = ap least (sym st.waiting) ∙ least_is in
     let there : IsIn next state.committed = in_filter (λ c. not (has same_id c.key.id state.executed)) state.committed next (least_in (waiting state) next first) in
@@ -101,8 +105,48 @@ executes e e' next least_is book queue store state st =
       committed = ap (λ (k : Known). k.committed) book ∙ st.committed;
       waiting = queue ∙ ap (filter (λ d. not (same_id d.key.id id))) st.waiting ∙ drop_one id state.executed state.committed;
       contents = store ∙ ap (after_all (ops_on e.topology.partitions e.site.partition.0 next.command.ops)) st.contents;
-      declared = st.declared;
+      declared = subst (λ (d : Declared). Keeps d (calls_of state)) (sym declared) st.declared;
       executed = λ other apart. or_from (same_id other id) (has same_id other state.executed) (not_this other id (committed_ids state) known apart) (st.executed other apart);
       keys = st.keys;
     } in
     subst (λ (o : Option Committed). IsState e' (execute_least e.topology e.site o state).0) (sym first) after
+
+-- what an executor keeps but for the declarations
+pub record KeepsRest (e e' : Executor) : Type 0 where
+  pub book : e'.book ≡ e.book
+  pub queue : e'.queue ≡ e.queue
+  pub store : e'.store ≡ e.store
+
+-- a command was heard of from another partition
+pub hears : (e e' : Executor) (from : Site) (id : CommandId) → KeepsRest e e' → (from.partition.0 == e.site.partition.0) ≡ false
+    → ((calls : Calls) → Keeps e.declared calls → Keeps e'.declared (record { sent = calls.sent; heard = record { id = id; partition = from.partition.0 } ∷ calls.heard }))
+    → (state : ExecutorState) → IsState e state → IsState e' (on_stable e.site (ExecutorName from) id state).0
+hears e e' from id same other more state st =
+    let later : ExecutorState = record state { heard = record { id = id; partition = from.partition.0 } ∷ state.heard } in
+    let after : IsState e' later = record {
+      told = ap (λ (k : Known). k.told) same.book ∙ st.told;
+      committed = ap (λ (k : Known). k.committed) same.book ∙ st.committed;
+      waiting = same.queue ∙ st.waiting;
+      contents = ap value_of same.store ∙ st.contents;
+      declared = more (calls_of state) st.declared;
+      executed = st.executed;
+      keys = st.keys;
+    } in
+    subst (λ (b : Bool). IsState e' (cond {A = Moved} (not b) (later, []) (state, [])).0) (sym other) after
+
+-- the least waiting command is declared
+pub declares : (e e' : Executor) (next : Committed) → least e.queue ≡ Some next → KeepsRest e e'
+    → ((calls : Calls) → Keeps e.declared calls → Keeps e'.declared (record { sent = next.command.id ∷ calls.sent; heard = calls.heard }))
+    → (state : ExecutorState) → IsState e state → IsState e' (on_declare e.topology e.site state).0
+declares e e' next least_is same more state st =
+    let first : least (waiting state) ≡ Some next = ap least (sym st.waiting) ∙ least_is in
+    let after : IsState e' (declared e.topology e.site next.command state).0 = record {
+      told = ap (λ (k : Known). k.told) same.book ∙ st.told;
+      committed = ap (λ (k : Known). k.committed) same.book ∙ st.committed;
+      waiting = same.queue ∙ st.waiting;
+      contents = ap value_of same.store ∙ st.contents;
+      declared = more (calls_of state) st.declared;
+      executed = st.executed;
+      keys = st.keys;
+    } in
+    subst (λ (o : Option Committed). IsState e' (declare_least e.topology e.site o state).0) (sym first) after

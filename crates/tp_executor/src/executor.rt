@@ -1,23 +1,27 @@
-ghost use Rattle.std.specs.Prelude.{◌≡◌, ◌≤◌, ◌==◌, ◌&&◌, ◌∷◌, ◌↔◌, [], not, false, IsTrue, IfOk, OnOk};
-ghost use Rattle.tp_ops.specs.Parts.{is_accessed};
+ghost use Rattle.std.specs.Prelude.{◌≡◌, ◌∷◌, [], Some, false, IfOk, OnOk};
 ghost use Rattle.tp_rules.specs.Acts.{ExecutorAt};
 ghost use Rattle.tp_rules.specs.Addresses.{is_command_at, is_site_of, message, others_accessed};
-ghost use Rattle.tp_rules.specs.Executor.{ExecutorState, on_committed, on_execute, on_message, on_promises};
+ghost use Rattle.tp_rules.specs.Executor.{ExecutorState, enabled_of, is_ready, is_undeclared, on_committed, on_declare, on_execute, on_message, on_promises, on_stable};
 ghost use Rattle.tp_wire.specs.Ranges.{IsInRange};
 
 use crate::book::Book;
+use crate::declaration::declarations;
+use crate::others::{awaited, is_alone};
 use crate::queue::{Committed, Queue};
 use crate::store::Store;
 use crate::telling::Telling;
 use std::alloc::Global;
-use tp_base::{ActorName, Duplicate, Key, NoMemory, Pairs, PartitionId, Sequence, Site, Stamp};
+use tp_base::{
+    ActorName, CommandId, Duplicate, Key, NoMemory, Pairs, PartitionId, Sequence, Site, Stamp,
+};
+use tp_mstable::Declared;
 use tp_ops::{Answers, Command, accesses};
 use tp_rules::{Actor, Inner, Outputs};
 use tp_topology::Topology;
 use tp_wire::{Body, Message};
 
 /// The executor of a site.
-#[derive(Debug, Drop)]
+#[derive(Drop)]
 pub struct Executor {
     alloc: Global,
     topology: Topology,
@@ -25,6 +29,7 @@ pub struct Executor {
     book: Book,
     queue: Queue,
     store: Store,
+    declared: Declared,
     spent: bool,
 }
 
@@ -45,28 +50,6 @@ fn is_command_at(topology: &Topology, p: PartitionId, command: &Command) -> bool
     1 <= command.home.0
         && command.home.0 <= topology.replicas()
         && accesses(command, topology.partitions(), p)
-}
-
-/// Whether a command accesses another partition.
-fn reaches(partitions: u8, command: &Command, p: PartitionId, q: PartitionId) -> bool
-    requires some { 1 ≤ partitions }
-    requires few { partitions ≤ 4 }
-    ensures { result ≡ (not (q.0 == p.0) && is_accessed partitions command.now q.0) }
-{
-    q != p && accesses(command, partitions, q)
-}
-
-/// Whether a command accesses no partition but one.
-fn is_alone(topology: &Topology, p: PartitionId, command: &Command) -> bool
-    ensures { IsTrue result ↔ (others_accessed topology.now command.now p.0 ≡ []) }
-{
-    let partitions = topology.partitions();
-    for i in 0..partitions {
-        if reaches(partitions, command, p, PartitionId(i + 1)) {
-            return false;
-        }
-    }
-    true
 }
 
 /// The answers of a partition's operations, to the command's session.
@@ -107,6 +90,7 @@ impl Executor {
             book: Book::new(alloc),
             queue: Queue::new(alloc),
             store: Store::new(alloc),
+            declared: Declared::new(alloc),
             spent: false,
         })
     }
@@ -142,12 +126,24 @@ impl Executor {
         self.book.commit(key.id)
     }
 
+    /// An executor declared a command.
+    fn hear(&mut self, from: Site, id: CommandId) -> Result<(), NoMemory>
+        ensures identity { identity self.new ≡ identity self.old }
+        ensures state { OnOk result ((state : ExecutorState) → IsState self.old state → IsState self.new (on_stable self.old.site (ActorName.Executor from) id state).0) }
+    {
+        if from.partition == self.site.partition {
+            return Ok(());
+        }
+        self.declared.heard(id, from.partition)
+    }
+
     fn take(&mut self, message: &Message) -> Result<(), NoMemory>
         ensures identity { identity self.new ≡ identity self.old }
         ensures state { OnOk result ((state : ExecutorState) → IsState self.old state → IsInRange message.now → IsState self.new (on_message self.old.topology self.old.site message.now state).0) }
     {
-        let ActorName::Process(from) = message.from else {
-            return Ok(());
+        let from = match message.from {
+            ActorName::Process(site) | ActorName::Executor(site) => site,
+            ActorName::Session(_) => return Ok(()),
         };
         if message.to != ActorName::Executor(self.site) || !is_site_of(&self.topology, from) {
             return Ok(());
@@ -160,8 +156,24 @@ impl Executor {
                 }
                 Ok(())
             }
+            Body::MStable { id } => self.hear(from, *id),
             _ => Ok(()),
         }
+    }
+
+    /// Declares the command with the least key of those that wait.
+    fn declare(&mut self) -> Result<Outputs, NoMemory>
+        ensures identity { identity self.new ≡ identity self.old }
+        ensures outputs { IfOk result (λ outputs. (state : ExecutorState) → IsState self.old state → outputs ≡ (on_declare self.old.topology self.old.site state).1) }
+        ensures state { OnOk result ((state : ExecutorState) → IsState self.old state → IsState self.new (on_declare self.old.topology self.old.site state).0) }
+    {
+        let Some(next) = self.queue.least() else {
+            return Ok(Sequence::new(self.alloc));
+        };
+        let id = next.command.id;
+        let outputs = declarations(self.alloc, &self.topology, self.site, &next.command)?;
+        self.declared.send(id)?;
+        Ok(outputs)
     }
 
     /// Executes the command with the least key of those that wait.
@@ -183,6 +195,49 @@ impl Executor {
         let outputs = result_of(self.alloc, self.site, command, answers)?;
         self.queue.remove(id);
         Ok(outputs)
+    }
+
+    /// Whether a command is on several partitions, and isn't declared here.
+    fn is_undeclared(&self, next: &Committed) -> bool
+        ensures { (state : ExecutorState) → IsState self.now state → result ≡ is_undeclared state next.now.key.id (others_accessed self.now.topology next.now.command self.now.site.partition.0) }
+    {
+        !is_alone(&self.topology, self.site.partition, &next.command)
+            && !self.declared.sent(next.key.id)
+    }
+
+    /// Whether a command is on this partition alone, or is declared here and by each other
+    /// partition.
+    fn is_ready(&self, next: &Committed) -> bool
+        ensures { (state : ExecutorState) → IsState self.now state → result ≡ is_ready state next.now.key.id (others_accessed self.now.topology next.now.command self.now.site.partition.0) }
+    {
+        let p = self.site.partition;
+        if is_alone(&self.topology, p, &next.command) {
+            return true;
+        }
+        let awaited = awaited(
+            &self.topology,
+            p,
+            &self.declared,
+            next.key.id,
+            &next.command,
+        );
+        self.declared.sent(next.key.id) && awaited.is_none()
+    }
+
+    /// The step that the executor may make where this command has the least key.
+    fn step_of(&self, next: &Committed) -> Option<Inner>
+        ensures { (state : ExecutorState) → IsState self.now state → result ≡ enabled_of self.now.topology self.now.site state (Some next.now) }
+    {
+        if !self.book.is_stable(&self.topology, next.key.stamp) {
+            return None;
+        }
+        if self.is_undeclared(next) {
+            return Some(Inner::Declare(next.key.id));
+        }
+        if self.is_ready(next) {
+            return Some(Inner::Execute(next.key.id));
+        }
+        None
     }
 }
 
@@ -212,6 +267,11 @@ impl Actor for Executor {
 
     fn fire(&mut self, inner: Inner) -> Result<Outputs, NoMemory> {
         match inner {
+            Inner::Declare(_) => {
+                let outputs = self.declare();
+                self.spent = outputs.is_err();
+                outputs
+            }
             Inner::Execute(_) => {
                 let outputs = self.execute();
                 self.spent = outputs.is_err();
@@ -222,11 +282,6 @@ impl Actor for Executor {
     }
 
     fn next_inner(&self) -> Option<Inner> {
-        let next = self.queue.least()?;
-        let stable = self.book.is_stable(&self.topology, next.key.stamp);
-        if stable && is_alone(&self.topology, self.site.partition, &next.command) {
-            return Some(Inner::Execute(next.key.id));
-        }
-        None
+        self.step_of(self.queue.least()?)
     }
 }

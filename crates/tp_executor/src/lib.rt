@@ -3,8 +3,10 @@
 #![tactic(auto)]
 
 mod book;
+mod declaration;
 mod executor;
 mod front;
+mod others;
 mod queue;
 mod store;
 mod telling;

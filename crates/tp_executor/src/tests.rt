@@ -38,6 +38,7 @@ fn bytes(alloc: Global, byte: u8) -> Result<Bytes, NoMemory>
     Ok(bytes)
 }
 
+/// On the first of two partitions.
 fn command(alloc: Global) -> Result<Command, NoMemory>
     ensures { IfOk result (λ command. IsCommand command) }
 {
@@ -53,18 +54,54 @@ fn command(alloc: Global) -> Result<Command, NoMemory>
     })
 }
 
-/// The command is committed at stamp 1.
-fn committed(alloc: Global) -> Result<Message, NoMemory>
-    ensures { IfOk result IsInRange }
+/// On both of two partitions.
+fn command_on_both(alloc: Global) -> Result<Command, NoMemory>
+    ensures { IfOk result (λ command. IsCommand command) }
 {
-    Ok(Message {
+    let mut ops = Sequence::new(alloc);
+    ops.add(Op::Put {
+        key: bytes(alloc, 0x62)?,
+        value: bytes(alloc, 0x31)?,
+    })?;
+    ops.add(Op::Get {
+        key: bytes(alloc, 0x61)?,
+    })?;
+    Ok(Command {
+        id: ID,
+        home: Rank(1),
+        ops,
+    })
+}
+
+/// A command is committed at stamp 1.
+fn committed(command: Command) -> Message
+    requires { IsCommand command }
+    ensures { IsInRange result }
+{
+    Message {
         from: ActorName::Process(site(1)),
         to: ActorName::Executor(site(1)),
         body: Body::MCommitted {
-            command: command(alloc)?,
+            command,
             stamp: Stamp(1),
         },
-    })
+    }
+}
+
+/// An executor of a partition declared the command.
+fn stable(partition: u8, rank: u8) -> Message
+    requires partition { (1 ≤ partition) × (partition ≤ 4) }
+    requires rank { (1 ≤ rank) × (rank ≤ 7) }
+    ensures { IsInRange result }
+{
+    Message {
+        from: ActorName::Executor(Site {
+            partition: PartitionId(partition),
+            rank: Rank(rank),
+        }),
+        to: ActorName::Executor(site(1)),
+        body: Body::MStable { id: ID },
+    }
 }
 
 /// A rank's promise of stamp 1 to the command.
@@ -89,11 +126,12 @@ fn promised(alloc: Global, rank: u8) -> Result<Message, NoMemory>
     })
 }
 
-fn executor(alloc: Global) -> Result<Executor, Fail>
+/// An executor of the first partition, of so many with three replicas.
+fn executor(alloc: Global, partitions: u8) -> Result<Executor, Fail>
     ensures unspent { IfOk result (λ executor. executor.spent ≡ false) }
     ensures stands { IfOk result (λ executor. (acts : List Act) × Stands executor acts) }
 {
-    let topology = Topology::new(1, 3, 1)?;
+    let topology = Topology::new(partitions, 3, 1)?;
     let executor = Executor::new(alloc, &topology, site(1))?;
     Ok(executor)
 }
@@ -109,6 +147,18 @@ fn takes(executor: &mut Executor, message: &Message) -> Result<(), NoMemory>
     Ok(())
 }
 
+/// An executor where the command on both partitions is committed and stable.
+fn executor_of_both(alloc: Global) -> Result<Executor, Fail>
+    ensures unspent { IfOk result (λ executor. executor.spent ≡ false) }
+    ensures stands { IfOk result (λ executor. (acts : List Act) × Stands executor acts) }
+{
+    let mut executor = executor(alloc, 2)?;
+    takes(&mut executor, &committed(command_on_both(alloc)?))?;
+    takes(&mut executor, &promised(alloc, 1)?)?;
+    takes(&mut executor, &promised(alloc, 3)?)?;
+    Ok(executor)
+}
+
 /// Makes the step that the executor may make, and gives what it sends.
 fn fired(executor: &mut Executor, alloc: Global) -> Result<Outputs, NoMemory>
     requires unspent { executor.old.spent ≡ false }
@@ -116,11 +166,30 @@ fn fired(executor: &mut Executor, alloc: Global) -> Result<Outputs, NoMemory>
     ensures unspent { OnOk result (executor.new.spent ≡ false) }
     ensures stands { OnOk result ((acts : List Act) × Stands executor.new acts) }
 {
-    if let Some(Inner::Execute(id)) = executor.next_inner() {
-        let outputs = executor.fire(Inner::Execute(id))?;
-        return Ok(outputs);
+    match executor.next_inner() {
+        Some(Inner::Declare(id)) => executor.fire(Inner::Declare(id)),
+        Some(Inner::Execute(id)) => executor.fire(Inner::Execute(id)),
+        _ => Ok(Sequence::new(alloc)),
     }
-    Ok(Sequence::new(alloc))
+}
+
+/// Whether the three executors of the second partition are told, in order.
+fn are_declarations(outputs: &Outputs) -> bool {
+    match outputs.as_slice() {
+        [first, second, third] => {
+            is_declaration(first, 1) && is_declaration(second, 2) && is_declaration(third, 3)
+        }
+        _ => false,
+    }
+}
+
+fn is_declaration(message: &Message, rank: u8) -> bool {
+    let to = Site {
+        partition: PartitionId(2),
+        rank: Rank(rank),
+    };
+    message.to == ActorName::Executor(to)
+        && matches!(&message.body, Body::MStable { id } if *id == ID)
 }
 
 /// Whether one result is sent, of the first partition and with one answer.
@@ -149,16 +218,48 @@ fn is_result(body: &Body) -> bool {
 #[test]
 fn executed_once(rt: HostRuntime) -> Result<(), Fail> {
     let alloc = rt.alloc();
-    let mut executor = executor(alloc)?;
+    let mut executor = executor(alloc, 1)?;
     assert_eq!(rt; executor.name(), ActorName::Executor(site(1)));
     takes(&mut executor, &promised(alloc, 1)?)?;
-    takes(&mut executor, &committed(alloc)?)?;
+    takes(&mut executor, &committed(command(alloc)?))?;
     assert_eq!(rt; executor.next_inner(), None, "one rank is no majority");
     takes(&mut executor, &promised(alloc, 2)?)?;
     assert_eq!(rt; executor.next_inner(), Some(Inner::Execute(ID)));
     assert!(rt; is_one_result(&fired(&mut executor, alloc)?));
-    takes(&mut executor, &committed(alloc)?)?;
+    takes(&mut executor, &committed(command(alloc)?))?;
     assert_eq!(rt; executor.next_inner(), None, "executed once");
     assert!(rt; !executor.spent());
+    Ok(())
+}
+
+#[test]
+fn declared_first(rt: HostRuntime) -> Result<(), Fail> {
+    let alloc = rt.alloc();
+    let mut executor = executor_of_both(alloc)?;
+    assert_eq!(rt; executor.next_inner(), Some(Inner::Declare(ID)));
+    assert!(rt; are_declarations(&fired(&mut executor, alloc)?));
+    assert_eq!(rt; executor.next_inner(), None, "not heard of yet");
+    Ok(())
+}
+
+#[test]
+fn executed_once_heard_of(rt: HostRuntime) -> Result<(), Fail> {
+    let alloc = rt.alloc();
+    let mut executor = executor_of_both(alloc)?;
+    fired(&mut executor, alloc)?;
+    takes(&mut executor, &stable(1, 2))?;
+    assert_eq!(rt; executor.next_inner(), None, "its own partition");
+    takes(&mut executor, &stable(2, 3))?;
+    assert_eq!(rt; executor.next_inner(), Some(Inner::Execute(ID)));
+    Ok(())
+}
+
+#[test]
+fn heard_of_first(rt: HostRuntime) -> Result<(), Fail> {
+    let alloc = rt.alloc();
+    let mut executor = executor_of_both(alloc)?;
+    takes(&mut executor, &stable(2, 1))?;
+    assert!(rt; are_declarations(&fired(&mut executor, alloc)?));
+    assert!(rt; is_one_result(&fired(&mut executor, alloc)?));
     Ok(())
 }

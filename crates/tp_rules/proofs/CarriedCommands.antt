@@ -1,7 +1,7 @@
 -- Where each command that an actor took passes a predicate, so does each that it keeps, has committed or sends. Used for the
 -- provenance of commands.
 use Rattle.std.proofs.Common.{◌≡◌, ℕ, List, [], ◌∷◌, Option, Some, None, cond, refl, sym, subst}
-use Rattle.std.specs.Prelude.{◌==◌, ◌&&◌, nat_lt, is_none, is_some, unwrap_or}
+use Rattle.std.specs.Prelude.{◌==◌, ◌&&◌, nat_lt, not, is_none, is_some, unwrap_or}
 use Rattle.std.proofs.lemmas.Bool.{cond_both}
 use Rattle.tp_base.specs.Lists.{Each, IsIn, has}
 use Rattle.tp_base.specs.Names.{same_id, same_name}
@@ -290,13 +290,20 @@ module _ (P : Command → Type 0) where
   executor_row me from (MConsensusAck id b) state h p = h
   executor_row me from (MRec c b) state h p = h
   executor_row me from (MRecAck id t made a b) state h p = h
-  executor_row me from (MStable id) state h p = h
+  executor_row me from (MStable id) state h p =
+      let next : executor.ExecutorState = record state { heard = record { id = id; partition = partition_of from } ∷ state.heard } in
+      cond_both (not (partition_of from == me.partition.0)) (next, []) (state, []) Commits (λ e. h) (λ e. h)
   executor_row me from (MResult id q answers) state h p = h
 
   execution_commits : (shape : Shape) (me : Site) (o : Option executor.Committed) (state : executor.ExecutorState) →
       CommitsOnly P state → Commits (executor.execute_least shape me o state)
   execution_commits shape me None state h = h
   execution_commits shape me (Some c) state h = h
+
+  declaration_commits : (shape : Shape) (me : Site) (o : Option executor.Committed) (state : executor.ExecutorState) →
+      CommitsOnly P state → Commits (executor.declare_least shape me o state)
+  declaration_commits shape me None state h = h
+  declaration_commits shape me (Some c) state h = h
 
   executor_step : (shape : Shape) (me : Site) (act : Act) (state : executor.ExecutorState) → CommitsOnly P state → Takes P act →
       Commits (executor.react shape me act state)
@@ -308,7 +315,7 @@ module _ (P : Command → Type 0) where
   executor_step shape me (Did Announce) state h p = h
   executor_step shape me (Did (Submit n)) state h p = h
   executor_step shape me (Did (Recover id)) state h p = h
-  executor_step shape me (Did (Declare id)) state h p = h
+  executor_step shape me (Did (Declare id)) state h p = declaration_commits shape me (executor.least (executor.waiting state)) state h
   executor_step shape me (Did Crash) state h p = h
 
   -- an executor has committed what passes
@@ -322,6 +329,12 @@ module _ (P : Command → Type 0) where
   execution_sends shape me None state = tt
   execution_sends shape me (Some c) state = (tt, tt)
 
+  declaration_sends : (shape : Shape) (me : Site) (o : Option executor.Committed) (state : executor.ExecutorState) →
+      Each Passes (executor.declare_least shape me o state).1
+  unfolding executor.declarations
+  declaration_sends shape me None state = tt
+  declaration_sends shape me (Some c) state = each_to Passes (Executor me) _ (MStable c.command.id) (λ to. tt)
+
   pub executor_sends_only : (shape : Shape) (me : Site) (act : Act) (state : executor.ExecutorState) →
       Each Passes (executor.react shape me act state).1
   executor_sends_only shape me (Took m) state = subst (Each Passes) (sym (executor_silent shape me m state)) tt
@@ -329,7 +342,7 @@ module _ (P : Command → Type 0) where
   executor_sends_only shape me (Did Announce) state = tt
   executor_sends_only shape me (Did (Submit n)) state = tt
   executor_sends_only shape me (Did (Recover id)) state = tt
-  executor_sends_only shape me (Did (Declare id)) state = tt
+  executor_sends_only shape me (Did (Declare id)) state = declaration_sends shape me (executor.least (executor.waiting state)) state
   executor_sends_only shape me (Did Crash) state = tt
 
   submissions_pass : (shape : Shape) (client : Client) (o : Option Command) → ((c : Command) → o ≡ Some c → P c) →

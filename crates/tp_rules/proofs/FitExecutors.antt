@@ -1,14 +1,16 @@
 -- An executor of an accepted script that took messages that are fit sends messages that are fit.
 use Rattle.std.proofs.Common.{◌≡◌, ℕ, suc, ◌≤◌, Bool, true, false, List, [], ◌∷◌, length, Option, Some, None, refl, ap, arith}
 use Rattle.std.proofs.lemmas.Bool.{and_parts, cond_both}
-use Rattle.std.specs.Prelude.{filter, not, ◌&&◌}
+use Rattle.std.specs.List.{flat_map}
+use Rattle.std.specs.Prelude.{filter, not, ◌==◌, ◌&&◌}
 use Rattle.std.specs.Str.{bytes_eq}
-use Rattle.tp_base.proofs.Each.{each_in}
+use Rattle.tp_base.proofs.Each.{each_in, each_weaker}
 use Rattle.tp_base.specs.Limits.{IsFrom}
 use Rattle.tp_base.specs.Lists.{Each, has}
 use Rattle.tp_base.specs.Names.{key_lt, same_id, same_name}
 use Rattle.tp_base.specs.declared.names.ActorName.{ActorName}
 use Rattle.tp_base.specs.declared.names.ActorName.TheVariants.{Executor}
+use Rattle.tp_base.specs.declared.names.CommandId.{CommandId}
 use Rattle.tp_base.specs.declared.names.Pair.{Pair}
 use Rattle.tp_base.specs.declared.names.Site.{Site}
 use Rattle.tp_ops.specs.Limits.{IsAnswer, IsCommand, IsOp, IsValue}
@@ -17,16 +19,16 @@ use Rattle.tp_ops.specs.Store.{Contents, after, after_all, answer_of, answers_of
 use Rattle.tp_ops.specs.declared.command.Command.{Command}
 use Rattle.tp_ops.specs.declared.operation.Op.{Op}
 use Rattle.tp_ops.specs.declared.operation.Op.TheVariants.{Get, Put, Del, Cas}
-use Rattle.tp_rules.proofs.Fit.{IsBodyOf, IsCommandHere, IsFit, IsFitAct, command_in_range, is_between-from, site_in_range, site_is}
-use Rattle.tp_rules.proofs.Selections.{IfAny, each_filter, filter_shorter, filter_some}
+use Rattle.tp_rules.proofs.Fit.{IsBodyOf, IsCommandHere, IsExecutorOf, IsFit, IsFitAct, command_in_range, each_executor, each_other_accessed, is_between-from, site_in_range, site_is}
+use Rattle.tp_rules.proofs.Selections.{IfAny, each_filter, each_image, each_spread, filter_shorter, filter_some}
 use Rattle.tp_rules.specs.Acts.{Act, Took, Did}
-use Rattle.tp_rules.specs.Addresses.{is_between, is_body_at, is_name_of, is_site_of, rank_of}
-use Rattle.tp_rules.specs.Executor.{Committed, ExecutorState, Moved, committed_ids, execute_least, executed, least, lesser, on_body, on_committed, on_promises, react, state_after, waiting}
-use Rattle.tp_rules.specs.declared.event.Inner.TheVariants.{Announce, Execute}
+use Rattle.tp_rules.specs.Addresses.{executors_of, is_between, is_body_at, is_name_of, is_site_of, message, others_accessed, partition_of, rank_of}
+use Rattle.tp_rules.specs.Executor.{Committed, ExecutorState, Moved, committed_ids, declarations, declare_least, execute_least, executed, least, lesser, on_body, on_committed, on_promises, on_stable, react, state_after, waiting}
+use Rattle.tp_rules.specs.declared.event.Inner.TheVariants.{Announce, Declare, Execute}
 use Rattle.tp_script.specs.Accepted.{IsAccepted, IsCommandOf}
 use Rattle.tp_script.specs.declared.script.Script.{Script}
 use Rattle.tp_wire.specs.declared.message.Body.{Body}
-use Rattle.tp_wire.specs.declared.message.Body.TheVariants.{MPromises, MCommitted}
+use Rattle.tp_wire.specs.declared.message.Body.TheVariants.{MPromises, MCommitted, MStable}
 
 -- a store that took values in range gives answers in range
 
@@ -105,6 +107,10 @@ module _ (script : Script) (accepted : IsAccepted script) (me : Site) (here : is
       of_lesser None k = h.0
       of_lesser (Some d) k = cond_both (key_lt d.key c.key) d c IsOurs (λ t. k) (λ f. h.0)
 
+  next_ours : (state : ExecutorState) → IsSound state → IfAny IsOurs (least (waiting state))
+  next_ours state sound =
+      least_ours (waiting state) (each_filter IsOurs (λ c. not (has same_id c.key.id state.executed)) state.committed sound.committed)
+
   executed_fit : (state : ExecutorState) (c : Command) → IsSound state → IsCommandHere script me.partition.0 c
       → Goes (executed script.topology me c state)
   executed_fit state c sound ours =
@@ -139,6 +145,30 @@ module _ (script : Script) (accepted : IsAccepted script) (me : Site) (here : is
   execute_fit state None sound ours = (sound, tt)
   execute_fit state (Some c) sound ours = executed_fit state c.command sound ours
 
+  declarations_fit : (c : Command) → IsCommandHere script me.partition.0 c → Each (IsFit script) (declarations script.topology me c)
+  unfolding declarations
+  declarations_fit c ours =
+      let is_command : IsCommand c = command_in_range script c accepted ours.ours in
+      let of = site_is script.topology me here in
+      let others : List ℕ = others_accessed script.topology c me.partition.0 in
+      let names : List ActorName = flat_map (executors_of script.topology) others in
+      let each_name : Each (IsExecutorOf script) names = each_spread (IsExecutorOf script) (executors_of script.topology) others
+      (each_weaker (IsFrom 1 script.topology.partitions) (λ q. Each (IsExecutorOf script) (executors_of script.topology q))
+      (each_executor script accepted.shape) others (each_other_accessed script.topology c me.partition.0)) in
+      each_image (IsFit script) (λ to. message (Executor me) to (MStable c.id)) names
+      (each_weaker (IsExecutorOf script) (λ to. IsFit script (message (Executor me) to (MStable c.id)))
+      (λ to is_executor. record {
+        known = is_executor.1;
+        range = (site_in_range script.topology accepted.shape me.partition.0 me.rank.0 of.0 of.1, is_executor.0, is_command.0);
+        ours = tt;
+      })
+      names each_name)
+
+  declare_fit : (state : ExecutorState) (o : Option Committed) → IsSound state → IfAny IsOurs o → Goes (declare_least script.topology me o state)
+  declare_fit state None sound ours = (sound, tt)
+  declare_fit state (Some c) sound ours =
+      (record { committed = sound.committed; contents = sound.contents }, declarations_fit c.command ours)
+
   committed_fit : (state : ExecutorState) (c : Command) (t : ℕ) → IsSound state → IsCommandHere script me.partition.0 c
       → Goes (on_committed c t state)
   committed_fit state c t sound ours =
@@ -154,12 +184,20 @@ module _ (script : Script) (accepted : IsAccepted script) (me : Site) (here : is
       (λ t. (record { committed = sound.committed; contents = sound.contents }, tt))
       (λ f. (sound, tt))
 
+  stable_fit : (state : ExecutorState) (from : ActorName) (id : CommandId) → IsSound state → Goes (on_stable me from id state)
+  stable_fit state from id sound =
+      cond_both (not (partition_of from == me.partition.0))
+      (record state { heard = record { id = id; partition = partition_of from } ∷ state.heard }, []) (state, []) Goes
+      (λ t. (record { committed = sound.committed; contents = sound.contents }, tt))
+      (λ f. (sound, tt))
+
   body_fit : (from : ActorName) (body : Body) (state : ExecutorState) → IsSound state → IsBodyOf script body
       → is_body_at script.topology me.partition.0 body ≡ true → Goes (on_body me from body state)
   body_fit from (MPromises lo hi pairs) state sound ours at = promises_fit state from lo hi pairs sound
   body_fit from (MCommitted c t) state sound ours at =
       let both = and_parts (is_between c.home.0 script.topology.replicas) (is_accessed script.topology.partitions c me.partition.0) at in
       committed_fit state c t.0 sound (record { ours = ours; accesses = both.1 })
+  body_fit from (MStable id) state sound ours at = stable_fit state from id sound
   body_fit from _ state sound ours at = (sound, tt)
 
   -- what it keeps and sends
@@ -172,9 +210,8 @@ module _ (script : Script) (accepted : IsAccepted script) (me : Site) (here : is
       cond_both (to_me && named && at) (on_body me m.from m.body state) (state, []) Goes
       (λ t. body_fit m.from m.body state sound fit.ours (and_parts (to_me && named) at t).1)
       (λ f. (sound, tt))
-  executor_fit (Did (Execute id)) state fit sound =
-      execute_fit state (least (waiting state)) sound
-      (least_ours (waiting state) (each_filter IsOurs (λ c. not (has same_id c.key.id state.executed)) state.committed sound.committed))
+  executor_fit (Did (Declare id)) state fit sound = declare_fit state (least (waiting state)) sound (next_ours state sound)
+  executor_fit (Did (Execute id)) state fit sound = execute_fit state (least (waiting state)) sound (next_ours state sound)
   executor_fit (Did Announce) state fit sound = (sound, tt)
   executor_fit (Did _) state fit sound = (sound, tt)
 

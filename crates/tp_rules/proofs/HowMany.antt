@@ -261,15 +261,28 @@ execution_short : (shape : Shape) (me : Site) (o : Option executor.Committed) (s
 execution_short shape me None state = omega arith
 execution_short shape me (Some c) state = omega arith
 
-executor_short : (shape : Shape) (me : Site) (act : Act) (state : executor.ExecutorState) → length (executor.react shape me act state).1 ≤ 63
-executor_short shape me (Took m) state = let none : length (executor.react shape me (Took m) state).1 ≡ 0 =
+declaration_short : (shape : Shape) → IsShape shape → (me : Site) (o : Option executor.Committed) (state : executor.ExecutorState) →
+    length (executor.declare_least shape me o state).1 ≤ 63
+unfolding executor.declarations
+declaration_short shape good me None state = omega arith
+declaration_short shape good me (Some c) state =
+    let names = flat_map (executors_of shape) (others_accessed shape c.command me.partition.0) in
+    let sends : length (to_each (Executor me) names (MStable c.command.id)) ≡ length names =
+    to_each_length (Executor me) names (MStable c.command.id) in
+    let count : length names ≤ length (others_accessed shape c.command me.partition.0) * 7 =
+    flat_length (executors_of shape) 7 (others_accessed shape c.command me.partition.0) (λ p. omega (arith, executors_length shape p, good.few_replicas)) in
+    omega (arith, others_length shape c.command me.partition.0, good.few_partitions)
+
+executor_short : (shape : Shape) → IsShape shape → (me : Site) (act : Act) (state : executor.ExecutorState) →
+    length (executor.react shape me act state).1 ≤ 63
+executor_short shape good me (Took m) state = let none : length (executor.react shape me (Took m) state).1 ≡ 0 =
     ap length (executor_silent shape me m state) in omega arith
-executor_short shape me (Did (Execute id)) state = execution_short shape me (executor.least (executor.waiting state)) state
-executor_short shape me (Did Announce) state = omega arith
-executor_short shape me (Did (Submit n)) state = omega arith
-executor_short shape me (Did (Recover id)) state = omega arith
-executor_short shape me (Did (Declare id)) state = omega arith
-executor_short shape me (Did Crash) state = omega arith
+executor_short shape good me (Did (Execute id)) state = execution_short shape me (executor.least (executor.waiting state)) state
+executor_short shape good me (Did Announce) state = omega arith
+executor_short shape good me (Did (Submit n)) state = omega arith
+executor_short shape good me (Did (Recover id)) state = omega arith
+executor_short shape good me (Did (Declare id)) state = declaration_short shape good me (executor.least (executor.waiting state)) state
+executor_short shape good me (Did Crash) state = omega arith
 
 submissions_short : (shape : Shape) → IsShape shape → (client : Client) (o : Option Command) → length (session.submissions shape client o) ≤ 63
 submissions_short shape good client None = omega arith
@@ -295,7 +308,7 @@ act_short : (script : Script) → IsShape script.topology → (actor : ActorName
     length (outputs_of (identity_in script actor) before act) ≤ 63
 act_short script good (Process s) before act =
     process_short (ring_setting script.topology) good s act (process.state_after (ring_setting script.topology) s before)
-act_short script good (Executor s) before act = executor_short script.topology s act (executor.state_after script.topology s before)
+act_short script good (Executor s) before act = executor_short script.topology good s act (executor.state_after script.topology s before)
 act_short script good (Session s) before act =
     session_short script.topology good (client_of script s) act (session.state_after script.topology (client_of script s) before)
 

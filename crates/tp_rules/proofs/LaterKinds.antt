@@ -1,7 +1,7 @@
 -- What is sent at a delivery is of later kinds than what is delivered, in the order of the counts that a run's end goes by.
 -- Used for the end of runs.
 use Rattle.std.proofs.Common.{◌≡◌, ℕ, ◌<◌, List, [], ◌∷◌, Option, Some, None, refl, sym, subst, arith}
-use Rattle.std.specs.Prelude.{◌==◌, ◌&&◌}
+use Rattle.std.specs.Prelude.{◌==◌, ◌&&◌, not}
 use Rattle.std.proofs.lemmas.Bool.{cond_both}
 use Rattle.tp_base.specs.Lists.{Each, has}
 use Rattle.tp_base.specs.Names.{same_id, same_name}
@@ -84,7 +84,9 @@ executor_row_silent me from (MConsensus c t b) state = refl
 executor_row_silent me from (MConsensusAck id b) state = refl
 executor_row_silent me from (MRec c b) state = refl
 executor_row_silent me from (MRecAck id t made a b) state = refl
-executor_row_silent me from (MStable id) state = refl
+executor_row_silent me from (MStable id) state =
+    let next : executor.ExecutorState = record state { heard = record { id = id; partition = partition_of from } ∷ state.heard } in
+    cond_both (not (partition_of from == me.partition.0)) (next, []) (state, []) (λ (moved : executor.Moved). moved.1 ≡ []) (λ e. refl) (λ e. refl)
 executor_row_silent me from (MResult id q answers) state = refl
 
 pub executor_silent : (shape : Shape) (me : Site) (m : Message) (state : executor.ExecutorState) → (executor.react shape me (Took m) state).1 ≡ []
@@ -123,6 +125,15 @@ results_are_later shape me state = of_least (executor.least (executor.waiting st
     of_least : (o : Option executor.Committed) → Each (IsAfter 15) (executor.execute_least shape me o state).1
     of_least None = tt
     of_least (Some c) = (omega arith, tt)
+
+-- a declaration sends what it declares
+pub declarations_are_later : (shape : Shape) (me : Site) (state : executor.ExecutorState) → Each (IsAfter 13) (executor.on_declare shape me state).1
+unfolding executor.declarations
+declarations_are_later shape me state = of_least (executor.least (executor.waiting state))
+  where
+    of_least : (o : Option executor.Committed) → Each (IsAfter 13) (executor.declare_least shape me o state).1
+    of_least None = tt
+    of_least (Some c) = each_to (IsAfter 13) (Executor me) _ (MStable c.command.id) (λ to. omega arith)
 
 -- a submission sends submissions
 pub submissions_are_later : (shape : Shape) (client : Client) (n : ℕ) (state : session.SessionState) →

@@ -28,13 +28,12 @@ use Rattle.tp_wire.specs.declared.message.Message.{Message}
 use Rattle.tp_rules.proofs.DeliveriesLeft.{delivery_falls, loss_falls}
 use Rattle.tp_rules.proofs.Histories.{free_history}
 use Rattle.tp_rules.proofs.HowMany.{outputs_few}
-use Rattle.tp_rules.proofs.LaterKinds.{IsAfter, sends_later, announcement_is_later, results_are_later}
-use Rattle.tp_rules.proofs.OwnSteps.{declare_may}
+use Rattle.tp_rules.proofs.LaterKinds.{IsAfter, sends_later, announcement_is_later, declarations_are_later, results_are_later}
 use Rattle.tp_rules.proofs.Parcels.{parcel, output_sent}
 use Rattle.tp_rules.proofs.Unannounced.{AddsNone, unannounced_stays, unannounced_rises, unannounced_falls}
 use Rattle.tp_rules.proofs.Undelivered.{undelivered_stays, undelivered_rises, undelivered_falls}
 use Rattle.tp_rules.proofs.Unentered.{unentered_stays, unentered_falls}
-use Rattle.tp_rules.proofs.Unexecuted.{undeclared_stays, unexecuted_stays, unexecuted_falls}
+use Rattle.tp_rules.proofs.Unexecuted.{undeclared_stays, undeclared_falls, unexecuted_stays, unexecuted_falls}
 use Rattle.tp_rules.proofs.Unsubmitted.{unsubmitted_stays, unsubmitted_falls}
 use Rattle.tp_rules.proofs.Weights.{Lower, RisesLittle, weight_falls}
 
@@ -245,6 +244,12 @@ module _ (script : Script) (accepted : IsAccepted script) (older : List Entry) (
   announces_later (Executor s) before = tt
   announces_later (Session s) before = tt
 
+  declares_later : (actor : ActorName) (before : List Act) (id : CommandId) →
+      Each (IsAfter 13) (outputs_of (identity_in script actor) before (Did (Declare id)))
+  declares_later (Process s) before id = tt
+  declares_later (Executor s) before id = declarations_are_later script.topology s (executor.state_after script.topology s before)
+  declares_later (Session s) before id = tt
+
   executes_later : (actor : ActorName) (before : List Act) (id : CommandId) →
       Each (IsAfter 15) (outputs_of (identity_in script actor) before (Did (Execute id)))
   executes_later (Process s) before id = tt
@@ -269,7 +274,13 @@ module _ (script : Script) (accepted : IsAccepted script) (older : List Entry) (
       subst (Each (IsAfter 11)) (sym (sends legal.rules (Some (Did Announce)) does)) (announces_later e.actor (acts older e.actor)) in
       lowers_11 11 later (omega arith) (inl (unannounced_falls script older e legal.rules event, rises_12))
   by_itself history legal (Declare id) event =
-      absurd (declare_may script older e.actor id (subst (MayHappen script older e.actor) event legal.rules.may))
+      let does : act_of older e.event ≡ Some (Did (Declare id)) = ap (act_of older) event in
+      let later : Each (IsAfter 13) e.outputs =
+      subst (Each (IsAfter 13)) (sym (sends legal.rules (Some (Did (Declare id))) does)) (declares_later e.actor (acts older e.actor) id) in
+      let silent : (act : Act) → act_of older e.event ≡ Some act → AddsNone act =
+      (λ act same. let which : Did (Declare id) ≡ act = some_act (sym does ∙ same) in subst AddsNone which tt) in
+      lowers_13 13 later silent (omega arith)
+      (inl (undeclared_falls script older e id (free_history script older history) legal.rules event, rises_14))
   by_itself history legal (Execute id) event =
       let does : act_of older e.event ≡ Some (Did (Execute id)) = ap (act_of older) event in
       let later : Each (IsAfter 15) e.outputs =

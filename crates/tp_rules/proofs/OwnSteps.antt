@@ -1,6 +1,6 @@
--- Which steps of its own an actor may make: a session submits its next command, a process announces, an executor executes its
--- least waiting command. Used where a step of a journal is to be known by its actor.
-use Rattle.std.proofs.Common.{◌≡◌, ℕ, ◌+◌, ◌<◌, true, List, Option, Some, None, length, refl}
+-- Which steps of its own an actor may make: a session submits its next command, a process announces, an executor declares
+-- its least waiting command, or executes it. Used where a step of a journal is to be known by its actor.
+use Rattle.std.proofs.Common.{◌≡◌, ◌⊎◌, ℕ, ◌+◌, ◌<◌, inl, inr, true, cond, List, Option, Some, None, length, refl}
 use Rattle.std.specs.Prelude.{◌&&◌, nat_lt}
 use Rattle.std.proofs.lemmas.Bool.{cond_both, ltb-true, and_parts}
 use Rattle.tp_base.specs.declared.names.ActorName.{ActorName}
@@ -40,19 +40,39 @@ process_may state inner e =
     (λ is f. (cc, is)) (λ is f. absurd cc) e
 
 -- an executor
+
+abbrev pub Declares : Shape → Site → executor.ExecutorState → executor.Committed → Inner → Type 0
+Declares shape me state c inner = (inner ≡ Declare c.key.id) × (executor.may_declare shape me state c ≡ true)
+
+abbrev pub Executes : Shape → Site → executor.ExecutorState → executor.Committed → Inner → Type 0
+Executes shape me state c inner = (inner ≡ Execute c.key.id) × (executor.may_execute shape me state c ≡ true)
+
+step_is : (shape : Shape) (me : Site) (state : executor.ExecutorState) (c : executor.Committed) (inner : Inner) →
+    executor.enabled_of shape me state (Some c) ≡ Some inner → Declares shape me state c inner ⊎ Executes shape me state c inner
+step_is shape me state c inner =
+    let execution : Option Inner = cond (executor.may_execute shape me state c) (Some (Execute c.key.id)) None in
+    let Goal : Option Inner → Type 0 = λ o. o ≡ Some inner → Declares shape me state c inner ⊎ Executes shape me state c inner in
+    cond_both (executor.may_declare shape me state c) (Some (Declare c.key.id)) execution Goal
+    (λ may e. inl (cc, may))
+    (λ no. cond_both (executor.may_execute shape me state c) (Some (Execute c.key.id)) None Goal (λ may e. inr (cc, may)) (λ none e. absurd cc))
+
 pub executor_may : (shape : Shape) (me : Site) (state : executor.ExecutorState) (inner : Inner) → executor.enabled shape me state ≡ Some inner →
-    (c : executor.Committed) × (executor.least (executor.waiting state) ≡ Some c) × (inner ≡ Execute c.key.id) ×
-    (executor.may_execute shape me state c ≡ true)
+    (c : executor.Committed) × (executor.least (executor.waiting state) ≡ Some c)
+    × (Declares shape me state c inner ⊎ Executes shape me state c inner)
 executor_may shape me state inner e = of_least (executor.least (executor.waiting state)) refl e
   where
     of_least : (o : Option executor.Committed) → executor.least (executor.waiting state) ≡ o → executor.enabled_of shape me state o ≡ Some inner →
-        (c : executor.Committed) × (executor.least (executor.waiting state) ≡ Some c) × (inner ≡ Execute c.key.id) ×
-        (executor.may_execute shape me state c ≡ true)
+        (c : executor.Committed) × (executor.least (executor.waiting state) ≡ Some c)
+        × (Declares shape me state c inner ⊎ Executes shape me state c inner)
     of_least None is f = absurd cc
-    of_least (Some c) is f =
-        cond_both (executor.may_execute shape me state c) (Some (Execute c.key.id)) None
-        (λ (o : Option Inner). o ≡ Some inner → (d : executor.Committed) × (executor.least (executor.waiting state) ≡ Some d) × (inner ≡ Execute d.key.id) × (executor.may_execute shape me state d ≡ true))
-        (λ may g. (c, is, cc, may)) (λ may g. absurd cc) f
+    of_least (Some c) is f = (c, is, step_is shape me state c inner f)
+
+-- no other step
+executor_may_not : (shape : Shape) (me : Site) (state : executor.ExecutorState) (inner : Inner) → executor.enabled shape me state ≡ Some inner →
+    ((id : CommandId) → inner ≡ Declare id → ⊥) → ((id : CommandId) → inner ≡ Execute id → ⊥) → ⊥
+executor_may_not shape me state inner e no_declare no_execute =
+    let found = executor_may shape me state inner e in
+    elim found.2 [ inl declares ↦ no_declare found.0.key.id declares.0 | inr executes ↦ no_execute found.0.key.id executes.0 ]
 
 -- who submits
 pub submit_may : (script : Script) (older : List Entry) (actor : ActorName) (n : ℕ) →
@@ -62,9 +82,9 @@ pub submit_may : (script : Script) (older : List Entry) (actor : ActorName) (n :
     × ((session.state_after script.topology (client_of script s) (acts older (Session s))).submitted < length (commands_of script s))
 submit_may script older (Process s) n may = let parts =
     process_may (process.state_after (ring_setting script.topology) s (acts older (Process s))) (Submit n) may in absurd (let wrong = parts.0 in cc)
-submit_may script older (Executor s) n may = let parts =
-    executor_may script.topology s (executor.state_after script.topology s (acts older (Executor s))) (Submit n) may in absurd
-    (let wrong = parts.2 in cc)
+submit_may script older (Executor s) n may = absurd
+    (executor_may_not script.topology s (executor.state_after script.topology s (acts older (Executor s))) (Submit n) may
+    (λ id wrong. cc) (λ id wrong. cc))
 submit_may script older (Session s) n may =
     let state = session.state_after script.topology (client_of script s) (acts older (Session s)) in
     let parts = session_may script.topology (client_of script s) state (Submit n) may in
@@ -77,9 +97,9 @@ pub announce_may : (script : Script) (older : List Entry) (actor : ActorName) �
     × (let state = process.state_after (ring_setting script.topology) s (acts older (Process s)) in nat_lt state.told state.clock ≡ true)
 announce_may script older (Process s) may =
     (s, refl, (process_may (process.state_after (ring_setting script.topology) s (acts older (Process s))) Announce may).1)
-announce_may script older (Executor s) may = let parts =
-    executor_may script.topology s (executor.state_after script.topology s (acts older (Executor s))) Announce may in absurd
-    (let wrong = parts.2 in cc)
+announce_may script older (Executor s) may = absurd
+    (executor_may_not script.topology s (executor.state_after script.topology s (acts older (Executor s))) Announce may
+    (λ id wrong. cc) (λ id wrong. cc))
 announce_may script older (Session s) may =
     let parts =
     session_may script.topology (client_of script s)
@@ -94,21 +114,30 @@ execute_may script older (Process s) id may = let parts =
     process_may (process.state_after (ring_setting script.topology) s (acts older (Process s))) (Execute id) may in absurd (let wrong = parts.0 in cc)
 execute_may script older (Executor s) id may =
     let parts = executor_may script.topology s (executor.state_after script.topology s (acts older (Executor s))) (Execute id) may in
-    let same : Execute id ≡ Execute parts.0.key.id = parts.2 in
-    (s, refl, parts.0, parts.1, cc)
+    elim parts.2 [
+      | inl declares ↦ absurd (let wrong = declares.0 in cc)
+      | inr executes ↦ let same : Execute id ≡ Execute parts.0.key.id = executes.0 in (s, refl, parts.0, parts.1, cc)
+    ]
 execute_may script older (Session s) id may =
     let parts =
     session_may script.topology (client_of script s) (session.state_after script.topology (client_of script s) (acts older (Session s)))
     (Execute id) may in absurd (let wrong = parts.0 in cc)
 
--- nobody declares yet
+-- who declares
 pub declare_may : (script : Script) (older : List Entry) (actor : ActorName) (id : CommandId) →
-    MayMake (identity_in script actor) (acts older actor) (Declare id) → ⊥
+    MayMake (identity_in script actor) (acts older actor) (Declare id) →
+    (s : Site) × (actor ≡ Executor s) × (c : executor.Committed)
+    × (executor.least (executor.waiting (executor.state_after script.topology s (acts older (Executor s)))) ≡ Some c)
+    × (executor.may_declare script.topology s (executor.state_after script.topology s (acts older (Executor s))) c ≡ true)
 declare_may script older (Process s) id may = let parts =
-    process_may (process.state_after (ring_setting script.topology) s (acts older (Process s))) (Declare id) may in let wrong = parts.0 in cc
-declare_may script older (Executor s) id may = let parts =
-    executor_may script.topology s (executor.state_after script.topology s (acts older (Executor s))) (Declare id) may in let wrong = parts.2 in cc
+    process_may (process.state_after (ring_setting script.topology) s (acts older (Process s))) (Declare id) may in absurd (let wrong = parts.0 in cc)
+declare_may script older (Executor s) id may =
+    let parts = executor_may script.topology s (executor.state_after script.topology s (acts older (Executor s))) (Declare id) may in
+    elim parts.2 [
+      | inl declares ↦ (s, refl, parts.0, parts.1, declares.1)
+      | inr executes ↦ absurd (let wrong = executes.0 in cc)
+    ]
 declare_may script older (Session s) id may =
     let parts =
     session_may script.topology (client_of script s) (session.state_after script.topology (client_of script s) (acts older (Session s)))
-    (Declare id) may in let wrong = parts.0 in cc
+    (Declare id) may in absurd (let wrong = parts.0 in cc)

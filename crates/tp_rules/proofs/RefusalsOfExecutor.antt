@@ -8,10 +8,10 @@ use Rattle.tp_rules.specs.Acts.{Act, Took, Did, Identity, ExecutorAt}
 use Rattle.tp_rules.specs.Addresses.{message, site}
 use Rattle.tp_rules.specs.Executor.{ExecutorState, Moved, react, state_after}
 use Rattle.tp_rules.specs.Rules.{enabled}
-use Rattle.tp_rules.specs.declared.event.Inner.TheVariants.{Execute}
+use Rattle.tp_rules.specs.declared.event.Inner.TheVariants.{Declare, Execute}
 use Rattle.tp_topology.specs.Shape.{Shape}
 use Rattle.tp_topology.specs.Stability.{told_as}
-use Rattle.tp_wire.specs.declared.message.Body.TheVariants.{MSubmit, MPromises, MCommitted}
+use Rattle.tp_wire.specs.declared.message.Body.TheVariants.{MSubmit, MPromises, MCommitted, MStable}
 use Rattle.tp_wire.specs.declared.message.Message.{Message}
 
 -- two partitions of three replicas, of which one may fail
@@ -67,6 +67,16 @@ committed_elsewhere : IsIgnored [] (message (process_at 1 1) (executor_at 1 1) (
 unfolding the_rules
 committed_elsewhere = refl
 
+-- MStable
+stable_of_own_partition : IsIgnored [] (message (executor_at 1 2) (executor_at 1 1) (MStable (id 1 1)))
+stable_of_own_partition = refl
+
+stable_of_no_partition : IsIgnored [] (message (executor_at 3 1) (executor_at 1 1) (MStable (id 1 1)))
+stable_of_no_partition = refl
+
+stable_of_no_rank : IsIgnored [] (message (executor_at 2 4) (executor_at 1 1) (MStable (id 1 1)))
+stable_of_no_rank = refl
+
 -- any message
 to_another : IsIgnored [] (message (process_at 1 1) (executor_at 1 2) (MCommitted put_b (stamp 1)))
 unfolding the_rules
@@ -80,7 +90,7 @@ no_rule : IsIgnored [] (message (session_of 1) (executor_at 1 1) (MSubmit put_b)
 unfolding the_rules
 no_rule = refl
 
--- Execute
+-- Declare, Execute
 nothing_committed : enabled me (Took (attached 2) ∷ Took (attached 1) ∷ []) ≡ None
 unfolding the_rules
 nothing_committed = refl
@@ -100,3 +110,26 @@ may_execute = refl
 executed_once : enabled me (Did (Execute (id 1 1)) ∷ Took (attached 2) ∷ Took (attached 1) ∷ Took (committed 1) ∷ []) ≡ None
 unfolding the_rules
 executed_once = refl
+
+-- put b 1 on partition 1, put a 1 on partition 2
+abbrev put_both : Command
+put_both = command (id 1 1) 1 (Put (98 ∷ []) (49 ∷ []) ∷ Put (97 ∷ []) (49 ∷ []) ∷ [])
+
+abbrev both_committed : Message
+both_committed = message (process_at 1 1) (executor_at 1 1) (MCommitted put_both (stamp 1))
+
+abbrev heard : ℕ → Message
+heard s = message (executor_at 2 1) (executor_at 1 1) (MStable (id s 1))
+
+heard_before_it_is_stable : enabled me (Took (heard 1) ∷ Took (attached 1) ∷ Took both_committed ∷ []) ≡ None
+unfolding the_rules
+heard_before_it_is_stable = refl
+
+heard_of_another : enabled me (Took (heard 2) ∷ Did (Declare (id 1 1)) ∷ Took (attached 2) ∷ Took (attached 1) ∷ Took both_committed ∷ []) ≡ None
+unfolding the_rules
+heard_of_another = refl
+
+-- its own partition's executors don't count for it
+heard_of_its_own : enabled me (Took (message (executor_at 1 2) (executor_at 1 1) (MStable (id 1 1))) ∷ Did (Declare (id 1 1)) ∷ Took (attached 2) ∷ Took (attached 1) ∷ Took both_committed ∷ []) ≡ None
+unfolding the_rules
+heard_of_its_own = refl

@@ -1,15 +1,18 @@
--- A command on two partitions: a partition's decision is told to all processes of both, and the command's stamp waits for the other's.
-use Rattle.std.proofs.Common.{◌≡◌, [], ◌∷◌, None, refl}
+-- A command on two partitions: a partition's decision is told to all processes of both, and the command's stamp waits for the
+-- other's. An executor declares it once its stamp is stable, and executes it once it heard so from the other partition.
+use Rattle.std.proofs.Common.{◌≡◌, ℕ, List, [], ◌∷◌, Some, None, refl}
 use Rattle.tp_ops.specs.declared.command.Command.{Command}
 use Rattle.tp_ops.specs.declared.operation.Op.TheVariants.{Put}
-use Rattle.tp_rules.proofs.RunWords.{process_at, session_of, partition, stamp, id, command, the_rules}
-use Rattle.tp_rules.specs.Acts.{Act, Took, Identity, ProcessAt}
+use Rattle.tp_rules.proofs.RunWords.{process_at, executor_at, session_of, partition, stamp, id, pair, command, the_rules}
+use Rattle.tp_rules.specs.Acts.{Act, Took, Did, Identity, ProcessAt, ExecutorAt}
 use Rattle.tp_rules.specs.Addresses.{message, site}
 use Rattle.tp_rules.specs.Process.{state_after}
-use Rattle.tp_rules.specs.Rules.{outputs_of}
+use Rattle.tp_rules.specs.Rules.{enabled, outputs_of}
 use Rattle.tp_rules.specs.Sheet.{Sheet, ring_setting, final_stamp}
+use Rattle.tp_ops.specs.declared.operation.Answer.TheVariants.{Missing}
+use Rattle.tp_rules.specs.declared.event.Inner.TheVariants.{Declare, Execute}
 use Rattle.tp_topology.specs.Shape.{Shape}
-use Rattle.tp_wire.specs.declared.message.Body.TheVariants.{MSubmit, MPropose, MPayload, MProposeAck, MBump, MCommit}
+use Rattle.tp_wire.specs.declared.message.Body.TheVariants.{MSubmit, MPropose, MPayload, MProposeAck, MBump, MCommit, MPromises, MCommitted, MStable, MResult}
 
 abbrev two : Shape
 two = record { partitions = 2; replicas = 3; failures = 1 }
@@ -52,3 +55,59 @@ sheet = (state_after (ring_setting two) (site 1 1) (acknowledged ∷ submitted �
 no_stamp_yet : final_stamp two sheet sheet.command ≡ None
 unfolding the_rules
 no_stamp_yet = refl
+
+-- the executor of partition 1's rank 1
+abbrev me : Identity
+me = ExecutorAt two (site 1 1)
+
+abbrev committed : Act
+committed = Took (message (process_at 1 1) (executor_at 1 1) (MCommitted put_both (stamp 1)))
+
+abbrev promised : ℕ → Act
+promised k = Took (message (process_at 1 k) (executor_at 1 1) (MPromises 0 1 (pair (id 1 1) 1 ∷ [])))
+
+abbrev heard : Act
+heard = Took (message (executor_at 2 3) (executor_at 1 1) (MStable (id 1 1)))
+
+abbrev stable : List Act
+stable = promised 3 ∷ promised 1 ∷ committed ∷ []
+
+declares : enabled me stable ≡ Some (Declare (id 1 1))
+unfolding the_rules
+declares = refl
+
+-- to the executors of the other partition
+declaration : outputs_of me stable (Did (Declare (id 1 1))) ≡
+    message (executor_at 1 1) (executor_at 2 1) (MStable (id 1 1)) ∷
+    message (executor_at 1 1) (executor_at 2 2) (MStable (id 1 1)) ∷
+    message (executor_at 1 1) (executor_at 2 3) (MStable (id 1 1)) ∷
+    []
+unfolding the_rules
+declaration = refl
+
+waits_for_the_other : enabled me (Did (Declare (id 1 1)) ∷ stable) ≡ None
+unfolding the_rules
+waits_for_the_other = refl
+
+-- it declares also where the other partition was the first
+declares_though_heard : enabled me (heard ∷ stable) ≡ Some (Declare (id 1 1))
+unfolding the_rules
+declares_though_heard = refl
+
+executes : enabled me (heard ∷ Did (Declare (id 1 1)) ∷ stable) ≡ Some (Execute (id 1 1))
+unfolding the_rules
+executes = refl
+
+executes_heard_before : enabled me (Did (Declare (id 1 1)) ∷ heard ∷ stable) ≡ Some (Execute (id 1 1))
+unfolding the_rules
+executes_heard_before = refl
+
+-- the answers of its own partition
+result : outputs_of me (heard ∷ Did (Declare (id 1 1)) ∷ stable) (Did (Execute (id 1 1))) ≡
+    message (executor_at 1 1) (session_of 1) (MResult (id 1 1) (partition 1) (Missing ∷ [])) ∷ []
+unfolding the_rules
+result = refl
+
+nothing_more : enabled me (Did (Execute (id 1 1)) ∷ heard ∷ Did (Declare (id 1 1)) ∷ stable) ≡ None
+unfolding the_rules
+nothing_more = refl

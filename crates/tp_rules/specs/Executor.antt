@@ -1,6 +1,6 @@
 -- The rules of an executor.
-use Rattle.std.specs.Prelude.{ℕ, ◌==◌, ◌&&◌, not, Bool, true, cond, List, [], ◌∷◌, Option, Some, None, map, filter}
-use Rattle.std.specs.List.{list_all, list_any}
+use Rattle.std.specs.Prelude.{ℕ, ◌==◌, ◌&&◌, not, Bool, true, false, cond, List, [], ◌∷◌, Option, Some, None, map, filter}
+use Rattle.std.specs.List.{flat_map, list_all, list_any}
 use Rattle.tp_base.specs.Lists.{has}
 use Rattle.tp_base.specs.Names.{same_id, same_name, key_lt}
 use Rattle.tp_base.specs.declared.names.ActorName.{ActorName}
@@ -13,13 +13,13 @@ use Rattle.tp_ops.specs.declared.command.Command.{Command}
 use Rattle.tp_ops.specs.Parts.{ops_on}
 use Rattle.tp_ops.specs.Store.{Contents, empty, after_all, answers_of}
 use Rattle.tp_rules.specs.Acts.{Act, Took, Did}
-use Rattle.tp_rules.specs.Addresses.{message, others_accessed, rank_of, partition_of, is_name_of, is_body_at}
+use Rattle.tp_rules.specs.Addresses.{message, to_each, others_accessed, executors_of, rank_of, partition_of, is_name_of, is_body_at}
 use Rattle.tp_rules.specs.declared.event.Inner.{Inner}
-use Rattle.tp_rules.specs.declared.event.Inner.TheVariants.{Execute}
+use Rattle.tp_rules.specs.declared.event.Inner.TheVariants.{Declare, Execute}
 use Rattle.tp_topology.specs.Shape.{Shape}
 use Rattle.tp_topology.specs.Stability.{Telling, is_stable}
 use Rattle.tp_wire.specs.declared.message.Body.{Body}
-use Rattle.tp_wire.specs.declared.message.Body.TheVariants.{MPromises, MCommitted, MResult}
+use Rattle.tp_wire.specs.declared.message.Body.TheVariants.{MPromises, MCommitted, MStable, MResult}
 use Rattle.tp_wire.specs.declared.message.Message.{Message}
 
 -- a committed command, with the key that it is executed in the order of
@@ -63,6 +63,12 @@ on_committed c t state = cond (has same_id c.id (committed_ids state))
     (state, [])
     (record state { committed = record { key = record { stamp = record { 0 = t }; id = c.id }; command = c } ∷ state.committed }, [])
 
+-- MStable(id) from an executor of another partition
+abbrev pub on_stable : Site → ActorName → CommandId → ExecutorState → Moved
+on_stable me from id state = cond (not (partition_of from == me.partition.0))
+    (record state { heard = record { id = id; partition = partition_of from } ∷ state.heard }, [])
+    (state, [])
+
 -- the committed commands that aren't executed
 abbrev pub waiting : ExecutorState → List Committed
 waiting state = filter (λ c. not (has same_id c.key.id state.executed)) state.committed
@@ -90,13 +96,42 @@ may_execute shape me state c =
     is_stable shape state.told (committed_ids state) c.key.stamp.0
     && is_ready state c.key.id (others_accessed shape c.command me.partition.0)
 
+-- it accesses other partitions, and isn't declared here
+abbrev pub is_undeclared : ExecutorState → CommandId → List ℕ → Bool
+is_undeclared state id [] = false
+is_undeclared state id (q ∷ qs) = not (has same_id id state.declared)
+
+abbrev pub may_declare : Shape → Site → ExecutorState → Committed → Bool
+may_declare shape me state c =
+    is_stable shape state.told (committed_ids state) c.key.stamp.0
+    && is_undeclared state c.key.id (others_accessed shape c.command me.partition.0)
+
+-- a command that may be declared may not be executed
 abbrev pub enabled_of : Shape → Site → ExecutorState → Option Committed → Option Inner
 enabled_of shape me state None = None
-enabled_of shape me state (Some c) = cond (may_execute shape me state c) (Some (Execute c.key.id)) None
+enabled_of shape me state (Some c) = cond (may_declare shape me state c)
+    (Some (Declare c.key.id))
+    (cond (may_execute shape me state c) (Some (Execute c.key.id)) None)
 
 -- the step of its own that an executor may make
 abbrev pub enabled : Shape → Site → ExecutorState → Option Inner
 enabled shape me state = enabled_of shape me state (least (waiting state))
+
+-- MStable to all executors of each other partition that a command accesses
+unfoldable pub declarations : Shape → Site → Command → List Message
+declarations shape me c =
+    to_each (Executor me) (flat_map (executors_of shape) (others_accessed shape c me.partition.0)) (MStable c.id)
+
+abbrev pub declared : Shape → Site → Command → ExecutorState → Moved
+declared shape me c state = (record state { declared = c.id ∷ state.declared }, declarations shape me c)
+
+abbrev pub declare_least : Shape → Site → Option Committed → ExecutorState → Moved
+declare_least shape me None state = (state, [])
+declare_least shape me (Some c) state = declared shape me c.command state
+
+-- Declare(id), where it may be entered: id is that of the least waiting command
+abbrev pub on_declare : Shape → Site → ExecutorState → Moved
+on_declare shape me state = declare_least shape me (least (waiting state)) state
 
 -- Execute: the partition's operations are applied, and the answers go to the session
 abbrev pub executed : Shape → Site → Command → ExecutorState → Moved
@@ -118,6 +153,7 @@ on_execute shape me state = execute_least shape me (least (waiting state)) state
 abbrev pub on_body : Site → ActorName → Body → ExecutorState → Moved
 on_body me from (MPromises lo hi pairs) state = on_promises me from lo hi pairs state
 on_body me from (MCommitted c t) state = on_committed c t.0 state
+on_body me from (MStable id) state = on_stable me from id state
 on_body me from _ state = (state, [])
 
 -- a message to another actor, or that names what is outside the shape, changes nothing and sends nothing
@@ -128,6 +164,7 @@ on_message shape me m state =
     (state, [])
 
 abbrev pub on_inner : Shape → Site → Inner → ExecutorState → Moved
+on_inner shape me (Declare id) state = on_declare shape me state
 on_inner shape me (Execute id) state = on_execute shape me state
 on_inner shape me _ state = (state, [])
 

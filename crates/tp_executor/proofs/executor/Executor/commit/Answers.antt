@@ -10,5 +10,5 @@ returns-clause-state c =
     when c.commit.result
     (λ book. committed c.args.self.now _ c.args.command.now c.args.stamp.0 (sym c.is_committed.ensures ∙ c.if-is_committed.false) book
     (c.in_ok-add.ensures.added ∙ ap (λ (copy : Command). let first : Committed = record { key = record { stamp = c.args.stamp; id = c.args.command.now.id }; command = copy } in first ∷ c.args.self.now.queue) c.in_ok-command.ensures)
-    refl)
+    refl refl)
     c.commit.ensures.committed

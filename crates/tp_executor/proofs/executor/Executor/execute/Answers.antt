@@ -19,3 +19,4 @@ returns-clause-state c =
     (c.in_ok-answers.ensures.contents
     ∙ ap (λ (m : ℕ). after_all (ops_on m site.partition.0 c.as_slice-ops.result.now) store) c.partitions-partitions.ensures.value
     ∙ ap (λ (ops : List Op). after_all (ops_on c.args.self.now.topology.partitions site.partition.0 ops) store) c.as_slice-ops.ensures)
+    refl

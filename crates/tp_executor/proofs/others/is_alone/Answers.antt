@@ -3,7 +3,7 @@ use Rattle.std.specs.Prelude.{◌==◌}
 use Rattle.std.proofs.lemmas.Bool.{and_parts, false≢true}
 use Rattle.tp_ops.specs.Parts.{is_accessed}
 use Rattle.tp_executor.proofs.Accessed.{not_empty}
-use Rattle.tp_executor.proofs.executor.is_alone.Goals as goal
+use Rattle.tp_executor.proofs.others.is_alone.Goals as goal
 
 pub returns-then-reaches : goal.returns-then-reaches
 returns-then-reaches c =
