@@ -217,19 +217,53 @@ fn is_result(body: &Body) -> bool {
     }
 }
 
+/// An executor of one partition, at which a command is stable.
+fn with_a_command(alloc: Global) -> Result<Executor, Fail>
+    ensures unspent { IfOk result (λ executor. executor.spent ≡ false) }
+    ensures stands { IfOk result (λ executor. (acts : List Act) × Stands executor acts) }
+{
+    let mut executor = executor(alloc, 1)?;
+    takes(&mut executor, &promised(alloc, 1)?)?;
+    takes(&mut executor, &committed_on_one(alloc)?)?;
+    takes(&mut executor, &promised(alloc, 2)?)?;
+    Ok(executor)
+}
+
+/// The same, and it has executed the command.
+fn that_executed(alloc: Global) -> Result<Executor, Fail>
+    ensures unspent { IfOk result (λ executor. executor.spent ≡ false) }
+    ensures stands { IfOk result (λ executor. (acts : List Act) × Stands executor acts) }
+{
+    let mut executor = with_a_command(alloc)?;
+    fired(&mut executor, alloc)?;
+    Ok(executor)
+}
+
+#[test]
+fn one_rank_is_no_majority(rt: HostRuntime) -> Result<(), Fail> {
+    let alloc = rt.alloc();
+    let mut executor = executor(alloc, 1)?;
+    takes(&mut executor, &promised(alloc, 1)?)?;
+    takes(&mut executor, &committed_on_one(alloc)?)?;
+    assert_eq!(rt; executor.next_inner(), None);
+    Ok(())
+}
+
+#[test]
+fn executed_once_it_is_stable(rt: HostRuntime) -> Result<(), Fail> {
+    let alloc = rt.alloc();
+    let mut executor = with_a_command(alloc)?;
+    assert_eq!(rt; executor.next_inner(), Some(Inner::Execute(ID)));
+    assert!(rt; is_one_result(&fired(&mut executor, alloc)?));
+    Ok(())
+}
+
 #[test]
 fn executed_once(rt: HostRuntime) -> Result<(), Fail> {
     let alloc = rt.alloc();
-    let mut executor = executor(alloc, 1)?;
-    assert_eq!(rt; executor.name(), ActorName::Executor(site(1)));
-    takes(&mut executor, &promised(alloc, 1)?)?;
+    let mut executor = that_executed(alloc)?;
     takes(&mut executor, &committed_on_one(alloc)?)?;
-    assert_eq!(rt; executor.next_inner(), None, "one rank is no majority");
-    takes(&mut executor, &promised(alloc, 2)?)?;
-    assert_eq!(rt; executor.next_inner(), Some(Inner::Execute(ID)));
-    assert!(rt; is_one_result(&fired(&mut executor, alloc)?));
-    takes(&mut executor, &committed_on_one(alloc)?)?;
-    assert_eq!(rt; executor.next_inner(), None, "executed once");
+    assert_eq!(rt; executor.next_inner(), None);
     assert!(rt; !executor.spent());
     Ok(())
 }

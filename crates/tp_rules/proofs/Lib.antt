@@ -9,6 +9,7 @@ mod OnePutOutputs
 mod OnePutPicked
 mod Operations
 mod Quorums
+mod Recoveries
 mod RefusalsOfExecutor
 mod RefusalsOfProcess
 mod RefusalsOfSession
