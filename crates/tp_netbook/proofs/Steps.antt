@@ -1,0 +1,272 @@
+-- What a netbook says may come next is what may come next.
+use Rattle.std.proofs.Common.{◌≡◌, ℕ, zero, suc, ◌+◌, ◌-◌, ◌<◌, ◌≤◌, ◌^◌, inl, inr, Bool, true, false, cond, List, [], ◌∷◌, ◌++◌, length, map, Option, Some, None, refl, sym, ap, subst, ◌∙◌, append_assoc, arith}
+use Rattle.std.proofs.lemmas.Bool.{and_parts, cases_Bool}
+use Rattle.std.proofs.lemmas.List.{length-append, length-reverse, map-append}
+use Rattle.std.proofs.lemmas.Option.{slice_get_within}
+use Rattle.std.proofs.lemmas.Slice.Zip.{length-zip}
+use Rattle.std.specs.List.{zip}
+use Rattle.std.specs.Prelude.{not, min, nat_lt, is_none, ◌&&◌, filter, filter_map, reverse, slice_get}
+use Rattle.tp_base.proofs.Each.{each_in}
+use Rattle.tp_base.proofs.Ends.{reverse_push, slice_get_left, slice_get_right}
+use Rattle.tp_base.proofs.Members.{get_in, in_right}
+use Rattle.tp_base.specs.Lists.{Each, IsIn}
+use Rattle.tp_base.specs.declared.names.ActorName.{ActorName}
+use Rattle.tp_netbook.proofs.Fates.{fate_once}
+use Rattle.tp_netbook.proofs.Outputs.{filter_like, map_filter, outputs_more}
+use Rattle.tp_netbook.proofs.Places.{few_actors, few_sites, place_get}
+use Rattle.tp_netbook.proofs.Watches.{alive_is, lines_are, undue_is, watches_more}
+use Rattle.tp_netbook.specs.Netbook as book
+use Rattle.tp_netbook.specs.Netbook.{AreCounted, AreNext, AreWatches, IsNetbook, deliveries, delivery_item, is_alive, is_free, is_settled, is_undue, line_item, lines, new_outputs, output_of, outputs_left, own_items}
+use Rattle.tp_netbook.specs.Served.{IsServed}
+use Rattle.tp_netbook.specs.declared.netbook.Netbook.{Netbook}
+use Rattle.tp_netbook.specs.declared.output.Output.{Output}
+use Rattle.tp_rules.proofs.Histories.{free_history}
+use Rattle.tp_rules.proofs.InRange.{sent_known}
+use Rattle.tp_rules.proofs.Tallies.{filter_in, filter_no, filter_yes}
+use Rattle.tp_rules.specs.Journal.{acts, identity_in, is_known, is_live, numbered, sent}
+use Rattle.tp_rules.specs.Pending.{actors_of, due_item, inner_item, is_waiting, item, own_item, parcel_item, pending, sites_of}
+use Rattle.tp_rules.specs.Plan.{Fate, Times, deliveries_left, due_of, fate_of}
+use Rattle.tp_rules.specs.Rules.{enabled}
+use Rattle.tp_rules.specs.Runs.{IsFreeHistory, IsHistory, IsRun}
+use Rattle.tp_rules.specs.declared.event.Entry.{Entry}
+use Rattle.tp_rules.specs.declared.event.Event.TheVariants.{Deliver}
+use Rattle.tp_rules.specs.declared.event.Inner.{Inner}
+use Rattle.tp_rules.specs.declared.event.Item.{Item}
+use Rattle.tp_rules.specs.declared.event.Parcel.{Parcel}
+use Rattle.tp_script.specs.declared.script.Script.{Script}
+use Rattle.tp_wire.specs.declared.message.Message.{Message}
+
+kept_fewer : {X Y : Type 0} (f : X → Option Y) (xs : List X) → length (filter_map f xs) ≤ length xs
+kept_fewer f [] = omega arith
+kept_fewer {X} {Y} f (x ∷ xs) = by (f x) refl (kept_fewer f xs)
+  where
+    by : (o : Option Y) → f x ≡ o → length (filter_map f xs) ≤ length xs → length (filter_map f (x ∷ xs)) ≤ suc (length xs)
+    by None e rest = rw e (omega arith)
+    by (Some y) e rest = rw e (omega arith)
+
+-- what is kept of the images of those that pass a test, where nothing would be kept of the others
+kept_of : {X Y Z : Type 0} (f : Y → Option Z) (make : X → Y) (test : X → Bool) (g : X → Option Z) (xs : List X)
+    → ((x : X) → IsIn x xs → test x ≡ true → f (make x) ≡ g x) → ((x : X) → IsIn x xs → test x ≡ false → g x ≡ None)
+    → filter_map f (map make (filter test xs)) ≡ filter_map g xs
+kept_of f make test g [] same gone = refl
+kept_of {X} {Y} {Z} f make test g (x ∷ xs) same gone =
+    let rest : filter_map f (map make (filter test xs)) ≡ filter_map g xs = kept_of f make test g xs (λ y k. same y (inr k)) (λ y k. gone y (inr k)) in
+    elim (cases_Bool (test x)) [
+      | inl t ↦ let here : f (make x) ≡ g x = same x (inl refl) t in ap (λ (l : List X). filter_map f (map make l)) (filter_yes test x xs t) ∙ both here rest
+      | inr u ↦ let none : g x ≡ None = gone x (inl refl) u in ap (λ (l : List X). filter_map f (map make l)) (filter_no test x xs u) ∙ rest ∙ sym (out none)
+    ]
+  where
+    both : f (make x) ≡ g x → filter_map f (map make (filter test xs)) ≡ filter_map g xs → filter_map f (make x ∷ map make (filter test xs)) ≡ filter_map g (x ∷ xs)
+    both here rest = rw (here, rest) refl
+
+    out : g x ≡ None → filter_map g (x ∷ xs) ≡ filter_map g xs
+    out none = rw none refl
+
+kept_beside : {X Y Z : Type 0} (f : X × Y → Option Z) (g : X → Option Z) (h : X → Y) (xs : List X) → ((x : X) → IsIn x xs → f (x, h x) ≡ g x)
+    → filter_map f (zip xs (map h xs)) ≡ filter_map g xs
+kept_beside f g h [] each = refl
+kept_beside f g h (x ∷ xs) each =
+    let here : f (x, h x) ≡ g x = each x (inl refl) in
+    rw (here, kept_beside f g h xs (λ y k. each y (inr k))) refl
+
+within : {X : Type 0} (xs : List X) (i : ℕ) (x : X) → Some x ≡ slice_get xs i → i < length xs
+within xs i x e = slice_get_within xs i x (sym e)
+
+pub beyond : {X : Type 0} (xs : List X) (i : ℕ) (o : Option X) → o ≡ slice_get xs i → ((x : X) → o ≡ Some x → ⊥) → length xs ≤ i
+beyond [] i o e none = omega arith
+beyond (x ∷ xs) zero o e none = absurd (none x e)
+beyond (x ∷ xs) (suc i) o e none = let rest : length xs ≤ i = beyond xs i o e none in omega arith
+
+module _ (script : Script) (journal : List Entry) (b : Netbook) (is : IsNetbook script journal b) (served : IsServed script) (run : IsRun script journal) where
+  history : IsFreeHistory script (reverse journal)
+  unfolding IsRun
+  history = free_history script (reverse journal) run
+
+  to_known : (p : Parcel) → IsIn p (sent (reverse journal)) → is_known script p.message.to ≡ true
+  to_known p h = each_in (λ (q : Parcel). is_known script q.message.to ≡ true) (sent (reverse journal)) p (sent_known script served.accepted (reverse journal) history) h
+
+  alive : (a : ActorName) → is_known script a ≡ true → is_alive b a ≡ is_live (reverse journal) a
+  alive = alive_is script (reverse journal) b is.topology is.sites
+
+  free : (a : ActorName) → is_known script a ≡ true → is_free b a ≡ is_waiting script (reverse journal) a
+  free a known =
+      ap (λ (c : Bool). c && is_undue b a) (alive a known)
+      ∙ ap (λ (c : Bool). is_live (reverse journal) a && c) (undue_is script (reverse journal) b is.topology is.sites a known)
+
+  lines_all : lines b ≡ filter_map (due_item script (reverse journal)) (sites_of script)
+  lines_all = lines_are script (reverse journal) b.sites.items is.sites
+
+  -- deliveries
+
+  abbrev delivery : Parcel → Item
+  delivery p = item p.message.to (Deliver p.entry p.place)
+
+  abbrev left : Parcel → Bool
+  left p = nat_lt 0 (deliveries_left script (reverse journal) p)
+
+  parcel_is : (p : Parcel) → parcel_item script (reverse journal) p ≡ cond (is_waiting script (reverse journal) p.message.to && left p) (Some (delivery p)) None
+  parcel_is p = let once : fate_of script (reverse journal) p ≡ Times 1 = fate_once script served.plain (reverse journal) p in rw once refl
+
+  -- one that is left is pending where its addressee is free, and one that isn't left isn't
+  stays_item : (p : Parcel) → IsIn p (sent (reverse journal)) → (is_live (reverse journal) p.message.to && left p) ≡ true → delivery_item b (output_of p) ≡ parcel_item script (reverse journal) p
+  stays_item p h both =
+      let parts = and_parts (is_live (reverse journal) p.message.to) (left p) both in
+      ap (λ (c : Bool). cond c (Some (delivery p)) None) (free p.message.to (to_known p h) ∙ sym (and_true (is_waiting script (reverse journal) p.message.to))
+      ∙ ap (λ (c : Bool). is_waiting script (reverse journal) p.message.to && c) (sym parts.1)) ∙ sym (parcel_is p)
+    where
+      and_true : (c : Bool) → (c && true) ≡ c
+      and_true true = refl
+      and_true false = refl
+
+  gone_item : (p : Parcel) → (is_live (reverse journal) p.message.to && left p) ≡ false → parcel_item script (reverse journal) p ≡ None
+  gone_item p neither =
+      parcel_is p ∙ ap (λ (c : Bool). cond c (Some (delivery p)) None)
+      (out (is_live (reverse journal) p.message.to) (is_none (due_of script (reverse journal) p.message.to)) (left p) neither)
+    where
+      out : (a c d : Bool) → (a && d) ≡ false → ((a && c) && d) ≡ false
+      out true true true e = e
+      out true true false e = refl
+      out true false d e = refl
+      out false c d e = refl
+
+  deliveries_all : deliveries b ≡ filter_map (parcel_item script (reverse journal)) (sent (reverse journal))
+  unfolding outputs_left
+  deliveries_all =
+      ap (filter_map (delivery_item b)) is.waiting
+      ∙ kept_of (delivery_item b) output_of (λ p. is_live (reverse journal) p.message.to && left p) (parcel_item script (reverse journal)) (sent (reverse journal)) stays_item (λ p h. gone_item p)
+
+  -- own steps
+
+  abbrev makes : ActorName → Option Inner
+  makes a = enabled (identity_in script a) (acts (reverse journal) a)
+
+  known_of : (a : ActorName) → IsIn a (actors_of script) → is_known script a ≡ true
+  known_of a h = let at = get_in (actors_of script) a h in (place_get script at.0 a at.1).1
+
+  own_all : (next : List (Option Inner)) → AreNext script journal next → own_items b next ≡ filter_map (own_item script (reverse journal)) (actors_of script)
+  own_all next are =
+      ap (λ (l : List ActorName). filter_map (book.own_item b) (zip l next)) is.roster
+      ∙ ap (λ (l : List (Option Inner)). filter_map (book.own_item b) (zip (actors_of script) l)) are
+      ∙ kept_beside (book.own_item b) (own_item script (reverse journal)) makes (actors_of script)
+      (λ a h. ap (λ (c : Bool). cond c (inner_item a (makes a)) None) (free a (known_of a h)))
+
+  module _ (next : List (Option Inner)) (are : AreNext script journal next) where
+    pub all_steps : pending script (reverse journal) ≡ lines b ++ deliveries b ++ own_items b next
+    unfolding pending
+    all_steps =
+        ap (λ (l : List Item). l ++ filter_map (parcel_item script (reverse journal)) (sent (reverse journal)) ++ filter_map (own_item script (reverse journal)) (actors_of script)) (sym lines_all)
+        ∙ ap (λ (l : List Item). lines b ++ l ++ filter_map (own_item script (reverse journal)) (actors_of script)) (sym deliveries_all)
+        ∙ ap (λ (l : List Item). lines b ++ deliveries b ++ l) (sym (own_all next are))
+
+    pub many_steps : (x y z : ℕ) → x ≡ length (lines b) → y ≡ length (deliveries b) → z ≡ length (own_items b next) → x + y + z ≡ length (pending script (reverse journal))
+    many_steps x y z a c d =
+        let total : length (pending script (reverse journal)) ≡ length (lines b ++ deliveries b ++ own_items b next) = ap length all_steps in
+        omega (arith, total, length-append (lines b ++ deliveries b) (own_items b next), length-append (lines b) (deliveries b))
+
+    -- with sums that stop at the greatest number
+    pub all_counted : (x y z xy xyz : ℕ) → x ≡ length (lines b) → y ≡ length (deliveries b) → z ≡ length (own_items b next) → y < 2 ^ 63
+        → xy ≡ min (x + y) (2 ^ 64 - 1) → xyz ≡ min (xy + z) (2 ^ 64 - 1) → xyz ≡ length (pending script (reverse journal))
+    all_counted x y z xy xyz a c d small first second =
+        let few_lines : length (lines b) ≤ length b.sites.items = kept_fewer line_item b.sites.items in
+        let few_own : length (own_items b next) ≤ length (zip b.roster.items next) = kept_fewer (book.own_item b) (zip b.roster.items next) in
+        let few_zip : length (zip b.roster.items next) ≤ length b.roster.items = omega (arith, length-zip b.roster.items next) in
+        let same : length b.roster.items ≡ length (actors_of script) = ap length is.roster in
+        let actors : length (actors_of script) ≤ 72 = few_actors script served.accepted.shape (omega (arith, served.accepted.sessions)) in
+        let sites : length (sites_of script) ≤ length (actors_of script) = few_sites script in
+        omega (arith, many_steps x y z a c d, few_lines, is.sites.many)
+
+    -- the step at a place
+
+    pub line_step : (i : ℕ) (x : Item) → Some x ≡ slice_get (lines b) i → Some x ≡ slice_get (pending script (reverse journal)) i
+    line_step i x at =
+        let lt : i < length (lines b) = within (lines b) i x at in
+        at ∙ sym (slice_get_left (lines b) (deliveries b) i lt)
+        ∙ sym (slice_get_left (lines b ++ deliveries b) (own_items b next) i (omega (arith, length-append (lines b) (deliveries b))))
+        ∙ ap (λ (l : List Item). slice_get l i) (sym all_steps)
+
+    pub delivery_step : (i j : ℕ) (x : Item) → length (lines b) ≤ i → j ≡ i - length (lines b) → Some x ≡ slice_get (deliveries b) j
+        → Some x ≡ slice_get (pending script (reverse journal)) i
+    delivery_step i j x past is_j at =
+        let lt : j < length (deliveries b) = within (deliveries b) j x at in
+        at ∙ sym (slice_get_right (lines b) (deliveries b) j i (omega arith))
+        ∙ sym (slice_get_left (lines b ++ deliveries b) (own_items b next) i (omega (arith, length-append (lines b) (deliveries b))))
+        ∙ ap (λ (l : List Item). slice_get l i) (sym all_steps)
+
+    pub own_step : (i j k : ℕ) (o : Option Item) → length (lines b) ≤ i → j ≡ i - length (lines b) → length (deliveries b) ≤ j → k ≡ j - length (deliveries b)
+        → o ≡ slice_get (own_items b next) k → o ≡ slice_get (pending script (reverse journal)) i
+    own_step i j k o past is_j past' is_k at =
+        at ∙ sym (slice_get_right (lines b ++ deliveries b) (own_items b next) k i (omega (arith, length-append (lines b) (deliveries b))))
+        ∙ ap (λ (l : List Item). slice_get l i) (sym all_steps)
+
+-- a netbook after one more entry
+
+module _ (script : Script) (journal : List Entry) (e : Entry) (b : Netbook) (is : IsNetbook script journal b) (served : IsServed script)
+    (run : IsRun script (journal ++ e ∷ [])) (short : length journal < 2 ^ 63) where
+  abbrev older : List Entry
+  older = reverse journal
+
+  turned : reverse (journal ++ e ∷ []) ≡ e ∷ older
+  turned = reverse_push journal e
+
+  whole : IsHistory script (e ∷ older)
+  unfolding IsRun
+  whole = subst (IsHistory script) turned run
+
+  now : IsFreeHistory script (e ∷ older)
+  now = free_history script (e ∷ older) whole
+
+  as_long : length older ≡ length journal
+  as_long = length-reverse journal
+
+  stay_filtered : filter (λ o. not (is_settled e.actor e.event o)) b.waiting.items ≡ map output_of (filter (λ p. not (is_settled e.actor e.event (output_of p))) (outputs_left script older))
+  stay_filtered =
+      ap (filter (λ o. not (is_settled e.actor e.event o))) is.waiting
+      ∙ map_filter output_of (λ o. not (is_settled e.actor e.event o)) (outputs_left script older)
+
+  -- after the outputs are settled (b1), the entry is counted (b2) and its outputs are added (b3)
+  module _ (b1 b2 b3 : Netbook)
+      (waiting1 : b1.waiting.items ≡ filter (λ o. not (is_settled e.actor e.event o)) b.waiting.items)
+      (topology1 : b1.topology ≡ b.topology) (sites1 : b1.sites ≡ b.sites) (roster1 : b1.roster ≡ b.roster)
+      (counted : AreCounted e.actor e.event b1 b1.sites.items b2.sites.items)
+      (topology2 : b2.topology ≡ b1.topology) (waiting2 : b2.waiting ≡ b1.waiting) (roster2 : b2.roster ≡ b1.roster) (entries2 : b2.entries ≡ suc (length journal))
+      (waiting3 : b3.waiting.items ≡ b2.waiting.items ++ new_outputs b2 b2.entries e.outputs)
+      (topology3 : b3.topology ≡ b2.topology) (sites3 : b3.sites ≡ b2.sites) (roster3 : b3.roster ≡ b2.roster) (entries3 : b3.entries ≡ b2.entries) where
+    topology_now : b2.topology ≡ script.topology
+    topology_now = topology2 ∙ topology1 ∙ is.topology
+
+    sites_then : AreWatches script older b1.sites.items
+    sites_then = subst (λ sites. AreWatches script older sites.items) (sym sites1) is.sites
+
+    sites_now : AreWatches script (e ∷ older) b2.sites.items
+    sites_now = watches_more script older e b1 b2.sites.items (topology1 ∙ is.topology) sites_then now.1.known (omega (arith, as_long)) counted
+
+    new_known : (p : Parcel) → IsIn p (numbered (suc (length older)) 1 e.outputs) → is_known script p.message.to ≡ true
+    new_known p h =
+        each_in (λ (q : Parcel). is_known script q.message.to ≡ true) (sent (e ∷ older)) p (sent_known script served.accepted (e ∷ older) now)
+        (in_right (sent older) (numbered (suc (length older)) 1 e.outputs) p h)
+
+    news : new_outputs b2 b2.entries e.outputs ≡ map output_of (filter (λ p. is_live (e ∷ older) p.message.to) (numbered (suc (length older)) 1 e.outputs))
+    news =
+        ap (λ (n : ℕ). filter (λ o. is_alive b2 o.to) (map output_of (numbered n 1 e.outputs))) (entries2 ∙ ap (λ (n : ℕ). suc n) (sym as_long))
+        ∙ map_filter output_of (λ o. is_alive b2 o.to) (numbered (suc (length older)) 1 e.outputs)
+        ∙ ap (map output_of) (filter_like (λ p. is_live (e ∷ older) p.message.to) (λ p. is_alive b2 p.message.to) (numbered (suc (length older)) 1 e.outputs)
+        (λ p h. alive_is script (e ∷ older) b2 topology_now sites_now p.message.to (new_known p h)))
+
+    olds : b2.waiting.items ≡ map output_of (filter (λ p. not (is_settled e.actor e.event (output_of p))) (outputs_left script older))
+    olds = ap (λ waiting. waiting.items) waiting2 ∙ waiting1 ∙ stay_filtered
+
+    pub netbook_more : IsNetbook script (journal ++ e ∷ []) b3
+    netbook_more = record {
+      topology = topology3 ∙ topology_now;
+      sites = subst (λ l. AreWatches script l b3.sites.items) (sym turned) (subst (λ sites. AreWatches script (e ∷ older) sites.items) (sym sites3) sites_now);
+      roster = ap (λ roster. roster.items) (roster3 ∙ roster2 ∙ roster1) ∙ is.roster;
+      waiting = waiting3 ∙ ap (λ (l : List Output). l ++ new_outputs b2 b2.entries e.outputs) olds
+          ∙ ap (λ (l : List Output). map output_of (filter (λ p. not (is_settled e.actor e.event (output_of p))) (outputs_left script older)) ++ l) news
+          ∙ sym (map-append output_of (filter (λ p. not (is_settled e.actor e.event (output_of p))) (outputs_left script older)) (filter (λ p. is_live (e ∷ older) p.message.to) (numbered (suc (length older)) 1 e.outputs)))
+          ∙ ap (map output_of) (sym (outputs_more script served older e now))
+          ∙ ap (λ (l : List Entry). map output_of (outputs_left script l)) (sym turned);
+      entries = entries3 ∙ entries2 ∙ more;
+    }
+      where
+        more : suc (length journal) ≡ length (journal ++ e ∷ [])
+        more = omega (arith, length-append journal (e ∷ []))

@@ -1,0 +1,3 @@
+pub mod Netbook
+pub mod Places
+pub mod Served

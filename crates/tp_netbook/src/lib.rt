@@ -1,0 +1,12 @@
+//! The steps that may come next in a run: the plan lines that are due, the messages that wait, and
+//! the actors' own steps.
+#![tactic(auto)]
+
+mod line;
+mod netbook;
+mod output;
+mod roster;
+mod watch;
+
+pub use netbook::Netbook;
+pub use roster::place_of;
