@@ -1,4 +1,3 @@
-pub mod Nexts
-pub mod Places
+pub mod Pendings
 pub mod Stands
-pub mod Waits
+pub mod Turns

@@ -1,23 +1,11 @@
 -- The script's actors in a list, and where each of them stands.
-use Rattle.std.specs.Prelude.{ℕ, ◌≡◌, ◌+◌, ◌-◌, ◌*◌, Bool, false, List, Some, length, reverse, slice_get}
+use Rattle.std.specs.Prelude.{ℕ, ◌≡◌, Bool, false, List, Some, length, reverse, slice_get}
 use Rattle.tp_base.specs.declared.names.ActorName.{ActorName}
-use Rattle.tp_base.specs.declared.names.ActorName.TheVariants.{Process, Executor, Session}
-use Rattle.tp_base.specs.declared.names.Site.{Site}
 use Rattle.tp_rules.specs.Acts.{Act, Identity}
 use Rattle.tp_rules.specs.Journal.{acts, identity_in}
 use Rattle.tp_rules.specs.Pending.{actors_of}
 use Rattle.tp_rules.specs.declared.event.Entry.{Entry}
 use Rattle.tp_script.specs.declared.script.Script.{Script}
-
--- the place of a site among all sites, from 0
-abbrev pub place_of_site : Script → Site → ℕ
-place_of_site script s = (s.partition.0 - 1) * script.topology.replicas + (s.rank.0 - 1)
-
--- the place of an actor among the script's, from 0: the sessions, the processes, the executors
-abbrev pub place_of : Script → ActorName → ℕ
-place_of script (Session s) = s.0 - 1
-place_of script (Process s) = length script.homes + place_of_site script s
-place_of script (Executor s) = length script.homes + script.topology.partitions * script.topology.replicas + place_of_site script s
 
 -- the actors are the script's, in their order; none is spent, and each stands where the rules leave it after its acts in the journal
 pub record AllStand {A : Type 0} (identity_of : A → Identity) (is_spent : A → Bool) (stands : A → List Act → Type 0)

@@ -1,89 +1,45 @@
-ghost use Rattle.std.specs.Prelude.{◌≡◌, ◌<◌, ◌≤◌, None, length, slice_get, unwrap_or, IfSome, List};
-ghost use Rattle.tp_driver.specs.Cast.{AllStand};
-ghost use Rattle.tp_driver.specs.Driving.{IsChosen, IsOwn, IsServed, IsWaiting, own_steps};
+ghost use Rattle.std.specs.Prelude.{◌≡◌, ◌<◌, ◌^◌, length, slice_get, unwrap_or};
+ghost use Rattle.tp_driver.specs.Driving.{IsChosen};
+ghost use Rattle.tp_netbook.specs.Netbook.{AreNext, IsNetbook};
+ghost use Rattle.tp_netbook.specs.Served.{IsServed};
 ghost use Rattle.tp_rules.specs.Runs.{IsRun};
-ghost use Rattle.tp_rules.specs.declared.event.Entry.{Entry};
-ghost use Rattle.tp_script.specs.declared.script.Script.{Script};
 
-use crate::waiting::Waiting;
-use tp_base::ActorName;
 use tp_journal::Journal;
-use tp_rules::{Actor, Inner};
+use tp_netbook::Netbook;
+use tp_rules::{Inner, Item};
 use tp_script::Script;
 
-/// What comes next: the delivery of one of the outputs that wait, or an actor's own step.
-#[derive(Clone, Copy, Debug)]
-pub enum Chosen {
-    Output(usize),
-    Own(ActorName, Inner),
-}
-
-/// The one of what is pending that the next pick chooses.
-pub fn choose<A: Actor>(
+/// The one of the steps that may come next which the next pick chooses.
+pub fn choose(
     script: &Script,
     journal: &Journal,
-    waiting: &Waiting,
-    actors: &[A],
-) -> Option<Chosen>
+    netbook: &Netbook,
+    next: &[Option<Inner>],
+) -> Option<Item>
     requires served { IsServed script.now }
     requires run { IsRun script.now journal.now }
-    requires waiting { IsWaiting script.now waiting.now journal.now }
-    requires cast { AllStand A.identity_of A.is_spent A.stands script.now actors.now journal.now }
-    ensures { IsChosen script.now journal.now result }
+    requires netbook { IsNetbook script.now journal.now netbook.now }
+    requires next { AreNext script.now journal.now next.now }
+    ensures chosen { IsChosen script.now journal.now result }
+    ensures short { length journal.now < 2 ^ 63 }
 {
     let pick = next_pick(script, journal);
-    let outputs = waiting.len();
-    if pick == 0 && outputs > 0 {
-        return Some(Chosen::Output(0));
+    if pick == 0 {
+        return netbook.item(next, 0);
     }
-    let all = outputs + count_own(actors);
+    let all = netbook.pending(next);
     if all == 0 {
         return None;
     }
-    let index = pick % all;
-    if index < outputs {
-        return Some(Chosen::Output(index));
-    }
-    let (actor, inner) = own_step(actors, index - outputs)?;
-    Some(Chosen::Own(actor, inner))
+    netbook.item(next, pick % all)
 }
 
-fn next_pick(script: &Script, journal: &Journal) -> usize
-    ensures { result ≡ unwrap_or (slice_get script.now.picks (length journal.now)) 0 }
+fn next_pick(script: &Script, journal: &Journal) -> u64
+    ensures pick { result ≡ unwrap_or (slice_get script.now.picks (length journal.now)) 0 }
+    ensures short { length journal.now < 2 ^ 63 }
 {
     match script.picks.get(journal.entries().len()) {
-        Some(pick) => *pick as usize,
+        Some(pick) => u64::from(*pick),
         None => 0,
     }
-}
-
-// How many actors have a step of their own.
-fn count_own<A: Actor>(actors: &[A]) -> usize
-    ensures count { (script : Script) (journal : List Entry) → AllStand A.identity_of A.is_spent A.stands script actors.now journal → result ≡ length (own_steps script journal) }
-    ensures few { result ≤ length actors.now }
-{
-    let mut count = 0;
-    for actor in actors {
-        if actor.next_inner().is_some() {
-            count += 1;
-        }
-    }
-    count
-}
-
-// An own step, counted from 0.
-fn own_step<A: Actor>(actors: &[A], k: usize) -> Option<(ActorName, Inner)>
-    ensures some { (script : Script) (journal : List Entry) → AllStand A.identity_of A.is_spent A.stands script actors.now journal → IfSome result (λ own. IsOwn script journal k own.0 own.1) }
-    ensures none { (script : Script) (journal : List Entry) → AllStand A.identity_of A.is_spent A.stands script actors.now journal → k < length (own_steps script journal) → result ≡ None → ⊥ }
-{
-    let mut left = k;
-    for actor in actors {
-        if let Some(inner) = actor.next_inner() {
-            if left == 0 {
-                return Some((actor.name(), inner));
-            }
-            left -= 1;
-        }
-    }
-    None
 }

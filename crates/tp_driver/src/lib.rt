@@ -2,8 +2,6 @@
 #![tactic(auto)]
 
 mod choice;
-mod roster;
 mod steps;
-mod waiting;
 
 pub use steps::drive;

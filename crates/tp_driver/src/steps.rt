@@ -1,16 +1,21 @@
-ghost use Rattle.std.specs.Prelude.{◌≡◌, ◌<◌, ◌++◌, ◌∷◌, [], false, length, reverse, suc, IfOk, IsTrue, OnErr, OnOk};
+ghost use Rattle.std.specs.Prelude.{◌≡◌, ◌<◌, ◌++◌, ◌∷◌, [], List, false, reverse, IfOk, IsTrue, OnOk};
 ghost use Rattle.tp_driver.specs.Cast.{AllStand};
-ghost use Rattle.tp_driver.specs.Driving.{ComesNext, IsDriven, IsOneMore, IsServed, IsWaiting, MayMakeNext, places_of};
+ghost use Rattle.tp_driver.specs.Driving.{IsDriven, MayCome};
+ghost use Rattle.tp_netbook.specs.Netbook.{AreNext, IsNetbook};
+ghost use Rattle.tp_netbook.specs.Served.{IsServed};
 ghost use Rattle.tp_rules.specs.Left.{left};
 ghost use Rattle.tp_rules.specs.Pending.{IsQuiet};
+ghost use Rattle.tp_rules.specs.Runs.{IsRun, outputs_in};
+ghost use Rattle.tp_rules.specs.declared.event.Entry.{Entry as EntryValue};
+ghost use Rattle.tp_rules.specs.declared.event.Event.TheVariants.{Deliver, Dropped, Inner as OfItself};
+ghost use Rattle.tp_script.specs.declared.script.Script.{Script as ScriptValue};
 
-use crate::choice::{Chosen, choose};
-use crate::roster::place_of;
-use crate::waiting::Waiting;
+use crate::choice::choose;
 use std::alloc::Global;
 use tp_base::{ActorName, NoMemory};
 use tp_journal::Journal;
-use tp_rules::{Actor, Entry, Event, Inner};
+use tp_netbook::{Netbook, place_of};
+use tp_rules::{Actor, Entry, Event, Inner, Item, Outputs};
 use tp_script::Script;
 
 /// Enters one step after the other until nothing is pending: each is the one that the next pick
@@ -28,112 +33,131 @@ pub fn drive<A: Actor>(
     ensures quiet { OnOk result (IsQuiet script.now journal.new) }
     ensures cast { OnOk result (AllStand A.identity_of A.is_spent A.stands script.now actors.new journal.new) }
 {
-    let mut waiting = Waiting::new(alloc);
-    while turn(script, journal, &mut waiting, actors)? {}
+    let mut netbook = Netbook::new(alloc, script)?;
+    let mut next = next_steps(alloc, actors)?;
+    while turn(alloc, script, journal, &mut netbook, actors, &mut next)? {}
     Ok(())
+}
+
+// The step of its own that each actor may make.
+fn next_steps<A: Actor>(alloc: Global, actors: &[A]) -> Result<Vec<Option<Inner>>, NoMemory>
+    ensures { IfOk result (λ next. (script : ScriptValue) (journal : List EntryValue) → AllStand A.identity_of A.is_spent A.stands script actors.now journal → AreNext script journal next.items) }
+{
+    let mut next = Vec::new(alloc);
+    for actor in actors {
+        next.push(actor.next_inner())?;
+    }
+    Ok(next)
 }
 
 // The next step, if any is pending.
 fn turn<A: Actor>(
+    alloc: Global,
     script: &Script,
     journal: &mut Journal,
-    waiting: &mut Waiting,
+    netbook: &mut Netbook,
     actors: &mut [A],
+    next: &mut [Option<Inner>],
 ) -> Result<bool, NoMemory>
     requires served { IsServed script.now }
     requires driven { IsDriven script.now journal.old }
-    requires waiting { IsWaiting script.now waiting.old journal.old }
+    requires netbook { IsNetbook script.now journal.old netbook.old }
     requires cast { AllStand A.identity_of A.is_spent A.stands script.now actors.old journal.old }
+    requires next { AreNext script.now journal.old next.old }
     ensures driven { IsDriven script.now journal.new }
-    ensures waiting { OnOk result (IsWaiting script.now waiting.new journal.new) }
+    ensures netbook { OnOk result (IsNetbook script.now journal.new netbook.new) }
     ensures cast { OnOk result (AllStand A.identity_of A.is_spent A.stands script.now actors.new journal.new) }
+    ensures next { OnOk result (AreNext script.now journal.new next.new) }
     ensures falls { IfOk result (λ went. IsTrue went → left script.now (reverse journal.new) < left script.now (reverse journal.old)) }
     ensures quiet { IfOk result (λ went. went ≡ false → IsQuiet script.now journal.new) }
 {
-    match choose(script, journal, waiting, actors) {
-        Some(Chosen::Output(i)) => deliver(script, journal, waiting, actors, i)?,
-        Some(Chosen::Own(actor, inner)) => fire(script, journal, waiting, actors, actor, inner)?,
-        None => return Ok(false),
-    }
+    let Some(item) = choose(script, journal, netbook, next) else {
+        return Ok(false);
+    };
+    let outputs = act(alloc, script, journal, actors, item)?;
+    let home = place_of(script, item.actor);
+    prove!(home < actors.len());
+    prove!(home < next.len());
+    next[home] = actors[home].next_inner();
+    let entry = Entry {
+        actor: item.actor,
+        event: item.event,
+        outputs,
+    };
+    netbook.entered(&entry)?;
+    journal.enter(entry)?;
     Ok(true)
 }
 
-// The addressee of an output that waits takes it.
-fn deliver<A: Actor>(
+// An actor makes a step, and gives what it sends.
+fn act<A: Actor>(
+    alloc: Global,
     script: &Script,
-    journal: &mut Journal,
-    waiting: &mut Waiting,
+    journal: &Journal,
     actors: &mut [A],
-    i: usize,
-) -> Result<(), NoMemory>
+    item: Item,
+) -> Result<Outputs, NoMemory>
     requires served { IsServed script.now }
-    requires driven { IsDriven script.now journal.old }
-    requires waiting { IsWaiting script.now waiting.old journal.old }
-    requires cast { AllStand A.identity_of A.is_spent A.stands script.now actors.old journal.old }
-    requires next { ComesNext script.now journal.old i }
-    ensures driven { IsDriven script.now journal.new }
-    ensures more { OnOk result (IsOneMore journal.old journal.new) }
-    ensures waiting { OnOk result (IsWaiting script.now waiting.new journal.new) }
-    ensures cast { OnOk result (AllStand A.identity_of A.is_spent A.stands script.now actors.new journal.new) }
+    requires run { IsRun script.now journal.now }
+    requires cast { AllStand A.identity_of A.is_spent A.stands script.now actors.old journal.now }
+    requires may { MayCome script.now journal.now item }
+    ensures outputs { IfOk result (λ outputs. outputs ≡ outputs_in script.now (reverse journal.now) item.actor item.event) }
+    ensures cast { OnOk result ((e : EntryValue) → e.actor ≡ item.actor → e.event ≡ item.event → AllStand A.identity_of A.is_spent A.stands script.now actors.new (journal.now ++ e ∷ [])) }
 {
-    let (entry, place) = waiting.take(i);
+    match item.event {
+        Event::Deliver { entry, place } => deliver(
+            alloc, script, journal, actors, item.actor, entry, place,
+        ),
+        Event::Dropped { entry: _, place: _ } => Ok(Outputs::new(alloc)),
+        Event::Inner(inner) => fire(script, journal, actors, item.actor, inner),
+    }
+}
+
+// The addressee of an output takes it.
+fn deliver<A: Actor>(
+    alloc: Global,
+    script: &Script,
+    journal: &Journal,
+    actors: &mut [A],
+    to: ActorName,
+    entry: u64,
+    place: u64,
+) -> Result<Outputs, NoMemory>
+    requires served { IsServed script.now }
+    requires run { IsRun script.now journal.now }
+    requires cast { AllStand A.identity_of A.is_spent A.stands script.now actors.old journal.now }
+    requires may { MayCome script.now journal.now (record { actor = to; event = Deliver entry place }) }
+    ensures outputs { IfOk result (λ outputs. outputs ≡ outputs_in script.now (reverse journal.now) to (Deliver entry place)) }
+    ensures cast { OnOk result ((e : EntryValue) → e.actor ≡ to → e.event ≡ Deliver entry place → AllStand A.identity_of A.is_spent A.stands script.now actors.new (journal.now ++ e ∷ [])) }
+{
     let Some(message) = journal.output(entry, place) else {
-        return Ok(());
+        return Ok(Outputs::new(alloc));
     };
-    let to = message.to;
     let home = place_of(script, to);
     prove!(home < actors.len());
     let actor = &mut actors[home];
     let outputs = actor.deliver(message)?;
-    let step = Entry {
-        actor: to,
-        event: Event::Deliver { entry, place },
-        outputs,
-    };
-    enter(journal, waiting, step)?;
-    Ok(())
+    Ok(outputs)
 }
 
 // An actor makes a step of its own.
 fn fire<A: Actor>(
     script: &Script,
-    journal: &mut Journal,
-    waiting: &mut Waiting,
+    journal: &Journal,
     actors: &mut [A],
     name: ActorName,
     inner: Inner,
-) -> Result<(), NoMemory>
+) -> Result<Outputs, NoMemory>
     requires served { IsServed script.now }
-    requires driven { IsDriven script.now journal.old }
-    requires waiting { IsWaiting script.now waiting.old journal.old }
-    requires cast { AllStand A.identity_of A.is_spent A.stands script.now actors.old journal.old }
-    requires next { MayMakeNext script.now journal.old name inner }
-    ensures driven { IsDriven script.now journal.new }
-    ensures more { OnOk result (IsOneMore journal.old journal.new) }
-    ensures waiting { OnOk result (IsWaiting script.now waiting.new journal.new) }
-    ensures cast { OnOk result (AllStand A.identity_of A.is_spent A.stands script.now actors.new journal.new) }
+    requires run { IsRun script.now journal.now }
+    requires cast { AllStand A.identity_of A.is_spent A.stands script.now actors.old journal.now }
+    requires may { MayCome script.now journal.now (record { actor = name; event = OfItself inner }) }
+    ensures outputs { IfOk result (λ outputs. outputs ≡ outputs_in script.now (reverse journal.now) name (OfItself inner)) }
+    ensures cast { OnOk result ((e : EntryValue) → e.actor ≡ name → e.event ≡ OfItself inner → AllStand A.identity_of A.is_spent A.stands script.now actors.new (journal.now ++ e ∷ [])) }
 {
     let home = place_of(script, name);
     prove!(home < actors.len());
     let actor = &mut actors[home];
     let outputs = actor.fire(inner)?;
-    let step = Entry {
-        actor: name,
-        event: Event::Inner(inner),
-        outputs,
-    };
-    enter(journal, waiting, step)?;
-    Ok(())
-}
-
-// Enters a step, whose outputs wait from then on.
-fn enter(journal: &mut Journal, waiting: &mut Waiting, step: Entry) -> Result<(), NoMemory>
-    ensures entered { OnOk result (journal.new ≡ journal.old ++ step ∷ []) }
-    ensures waiting { OnOk result (waiting.new ≡ waiting.old ++ places_of (suc (length journal.old)) (length step.outputs)) }
-    ensures same { OnErr result (journal.new ≡ journal.old) }
-{
-    let number = journal.entries().len() as u64 + 1;
-    waiting.add(number, step.outputs.len())?;
-    journal.enter(step)?;
-    Ok(())
+    Ok(outputs)
 }

@@ -201,7 +201,7 @@ module _ (script : Script) (journal : List Entry) (b : Netbook) (is : IsNetbook 
 -- a netbook after one more entry
 
 module _ (script : Script) (journal : List Entry) (e : Entry) (b : Netbook) (is : IsNetbook script journal b) (served : IsServed script)
-    (run : IsRun script (journal ++ e ∷ [])) (short : length journal < 2 ^ 63) where
+    (run : IsRun script (journal ++ e ∷ [])) (short : length journal + 1 < 2 ^ 64) where
   abbrev older : List Entry
   older = reverse journal
 
@@ -238,7 +238,7 @@ module _ (script : Script) (journal : List Entry) (e : Entry) (b : Netbook) (is 
     sites_then = subst (λ sites. AreWatches script older sites.items) (sym sites1) is.sites
 
     sites_now : AreWatches script (e ∷ older) b2.sites.items
-    sites_now = watches_more script older e b1 b2.sites.items (topology1 ∙ is.topology) sites_then now.1.known (omega (arith, as_long)) counted
+    sites_now = watches_more script older e b1 b2.sites.items (topology1 ∙ is.topology) sites_then now.1.known (omega (arith, as_long, short)) counted
 
     new_known : (p : Parcel) → IsIn p (numbered (suc (length older)) 1 e.outputs) → is_known script p.message.to ≡ true
     new_known p h =

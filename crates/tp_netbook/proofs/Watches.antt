@@ -188,7 +188,7 @@ module _ (script : Script) (older : List Entry) (e : Entry) (w : Watch) (s : Sit
         came = is.came ∙ ap (λ (l : List Entry). length (filter (λ x. is_planned x.event) l)) (sym entries);
       }
 
-  watch_more : (w' : Watch) → same_name e.actor (Process s) ≡ true → length older < 2 ^ 63 → IsCounted e.event w w' → IsWatch script (e ∷ older) w' s
+  watch_more : (w' : Watch) → same_name e.actor (Process s) ≡ true → length older + 1 < 2 ^ 64 → IsCounted e.event w w' → IsWatch script (e ∷ older) w' s
   watch_more w' own short counted =
       let entries = entries_more older e s own in
       let many : length (e ∷ entries_of older s) ≡ w.made + 1 = omega (arith, is.made) in
@@ -203,7 +203,7 @@ module _ (script : Script) (older : List Entry) (e : Entry) (w : Watch) (s : Sit
       }
 
 pub watches_more : (script : Script) (older : List Entry) (e : Entry) (book : Netbook) (ws : List Watch) → book.topology ≡ script.topology
-    → AreWatches script older book.sites.items → is_known script e.actor ≡ true → length older < 2 ^ 63 → AreCounted e.actor e.event book book.sites.items ws → AreWatches script (e ∷ older) ws
+    → AreWatches script older book.sites.items → is_known script e.actor ≡ true → length older + 1 < 2 ^ 64 → AreCounted e.actor e.event book book.sites.items ws → AreWatches script (e ∷ older) ws
 watches_more script older e book ws topology are known short counted = record {
   many = counted.many ∙ are.many;
   each = λ k w' s at site. let found = counted.each k w' at in by e.actor refl known k w' s found.0 (are.each k found.0 s found.1 site) site found.2;

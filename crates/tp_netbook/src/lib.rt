@@ -6,7 +6,9 @@ mod line;
 mod netbook;
 mod output;
 mod roster;
+mod served;
 mod watch;
 
 pub use netbook::Netbook;
 pub use roster::place_of;
+pub use served::is_served;

@@ -1,5 +1,5 @@
 ghost use Rattle.std.specs.Option.{option_copied};
-ghost use Rattle.std.specs.Prelude.{◌≡◌, ◌<◌, ◌^◌, ◌++◌, ◌∷◌, [], List, filter, not, length, reverse, slice_get, IfOk, OnOk};
+ghost use Rattle.std.specs.Prelude.{◌≡◌, ◌<◌, ◌+◌, ◌^◌, ◌++◌, ◌∷◌, [], List, filter, not, length, reverse, slice_get, IfOk, OnOk};
 ghost use Rattle.tp_netbook.specs.Netbook.{AreCounted, AreNext, AreWatches, IsNetbook, crashes, deliveries, delivery_item, is_alive, is_free, is_settled, is_undue, lines, new_outputs, own_item, own_items, watch_of};
 ghost use Rattle.tp_netbook.specs.Served.{IsServed};
 ghost use Rattle.tp_rules.specs.Journal.{is_delivery_of};
@@ -74,7 +74,7 @@ impl Netbook {
 
     /// Takes the next entry of the journal. After an error the netbook isn't used again.
     pub fn entered(&mut self, entry: &Entry) -> Result<(), NoMemory>
-        ensures { OnOk result ((script : ScriptValue) (journal : List EntryValue) → IsNetbook script journal self.old → IsServed script → IsRun script (journal ++ entry.now ∷ []) → length journal < 2 ^ 63 → IsNetbook script (journal ++ entry.now ∷ []) self.new) }
+        ensures { OnOk result ((script : ScriptValue) (journal : List EntryValue) → IsNetbook script journal self.old → IsServed script → IsRun script (journal ++ entry.now ∷ []) → length journal + 1 < 2 ^ 64 → IsNetbook script (journal ++ entry.now ∷ []) self.new) }
     {
         self.settle(entry.actor, entry.event);
         self.count(entry.actor, entry.event);

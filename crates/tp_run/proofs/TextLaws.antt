@@ -1,10 +1,10 @@
 -- A whole text and its script: each is the other's.
 use Rattle.std.proofs.Common.{◌≡◌, ℕ, ◌+◌, ◌≤◌, ◌<◌, nat_le, nat_lt, take, min, Bool, true, false, List, [], ◌∷◌, ◌++◌, Option, Some, None, Result, Ok, Err, ◌⊎◌, inl, inr, refl, sym, subst, ◌∙◌, ap, arith, length, append-nil}
 use Rattle.std.proofs.lemmas.List.{length-take, take_all}
-use Rattle.tp_driver.specs.Driving.{IsServed}
+use Rattle.tp_netbook.specs.Served.{IsServed, is_of_messages}
 use Rattle.tp_run.specs.declared.finished.Cause.{Cause}
 use Rattle.tp_run.specs.declared.finished.Cause.TheVariants.{Script as Faulty, Input, Unbuilt}
-use Rattle.tp_run.specs.Texts.{INPUT_MOST, no_lines, IsTextOf, cause_of, cause_of_read, is_built, is_end, read_to_end, script_of}
+use Rattle.tp_run.specs.Texts.{INPUT_MOST, IsTextOf, cause_of, cause_of_read, is_built, is_end, read_to_end, script_of}
 use Rattle.tp_script.proofs.Found.{script_found}
 use Rattle.tp_script.proofs.TextAgain.{script_again, text_again}
 use Rattle.tp_script.specs.Meaning.{fault_at, script_at}
@@ -138,11 +138,11 @@ front_cause text front is = go (nat_le (length front) INPUT_MOST) refl
         let longer : INPUT_MOST < length text = omega (arith, count, long) in
         long_cause front long ∙ sym (long_cause text longer)
 
-plan_is_empty : (plan : List PlanLine) → no_lines plan ≡ true → plan ≡ []
-plan_is_empty [] e = refl
-plan_is_empty (line ∷ lines) e = absurd cc
+not_so : (b : Bool) → not b ≡ true → b ≡ false
+not_so true e = absurd cc
+not_so false e = refl
 
 -- a script that is built is served
 pub built_is_served : (text : List ℕ) (s : Script) → IsTextOf text s → is_built s ≡ true → IsServed s
 unfolding is_built
-built_is_served text s is built = record { accepted = is.0; no_plan = plan_is_empty s.plan built }
+built_is_served text s is built = record { accepted = is.0; plain = not_so (list_any is_of_messages s.plan) built }

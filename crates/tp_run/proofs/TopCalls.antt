@@ -1,7 +1,8 @@
 -- Lists of words, and an input that was read whole, for the top call.
 use Rattle.std.proofs.Common.{true, IfErr, ◌≡◌, ℕ, ◌+◌, ◌<◌, ◌≤◌, ◌⊎◌, inl, inr, List, [], ◌∷◌, sym, ◌∙◌, ap, subst, arith, length, get_or, take, min, map, Option, Some, None, Result, Ok, Err, IfOk, IfSome, OnOk}
 use Rattle.std.proofs.lemmas.List.{take_all, length-take}
-use Rattle.tp_driver.specs.Driving.{IsDriven, IsServed}
+use Rattle.tp_driver.specs.Driving.{IsDriven}
+use Rattle.tp_netbook.specs.Served.{IsServed}
 use Rattle.tp_outside.specs.Causes.{Rose}
 use Rattle.tp_rules.proofs.InRange.{run_in_range}
 use Rattle.tp_rules.proofs.Journals.{run_is_free}

@@ -1,5 +1,6 @@
 -- What a whole input says: a script with nothing behind it, or the cause of its refusal.
 use Rattle.std.specs.Prelude.{ℕ, ◌≡◌, ◌+◌, nat_lt, Bool, true, false, if◌then◌else◌, List, [], ◌∷◌, Option, Some, None, Result, Ok, Err, length}
+use Rattle.tp_netbook.specs.Served.{is_served}
 use Rattle.tp_run.specs.declared.finished.Cause.{Cause}
 use Rattle.tp_run.specs.declared.finished.Cause.TheVariants.{Script as Faulty, Input, Unbuilt}
 use Rattle.tp_script.specs.Accepted.{IsAccepted}
@@ -7,7 +8,6 @@ use Rattle.tp_script.specs.Meaning.{fault_at, script_at}
 use Rattle.tp_script.specs.Print.{script_lines, text_of}
 use Rattle.tp_script.specs.declared.fault.ScriptCause.TheVariants.{Word}
 use Rattle.tp_script.specs.declared.fault.ScriptFault.{ScriptFault}
-use Rattle.tp_script.specs.declared.script.PlanLine.{PlanLine}
 use Rattle.tp_script.specs.declared.script.Script.{Script}
 use Rattle.tp_text.specs.Lines.{lines_of}
 use Rattle.tp_text.specs.Steps.{◌>>=◌}
@@ -33,13 +33,9 @@ read_to_end (script, lines) = if is_end lines then Ok script else Err (fault_at 
 unfoldable pub script_of : List ℕ → Result Script ScriptFault
 script_of text = script_at 1 (lines_of text) >>= read_to_end
 
-abbrev pub no_lines : List PlanLine → Bool
-no_lines [] = true
-no_lines (line ∷ lines) = false
-
--- what is served today: no plan
+-- what is served today: plans of crashes and recoveries alone
 unfoldable pub is_built : Script → Bool
-is_built script = no_lines script.plan
+is_built script = is_served script
 
 abbrev pub cause_of_read : Result Script ScriptFault → Option Cause
 cause_of_read (Err fault) = Some (Faulty fault)

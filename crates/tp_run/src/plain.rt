@@ -2,7 +2,8 @@ ghost use Rattle.std.specs.Prelude.{true, ◌≡◌, ◌≢◌, ◌⊎◌, ℕ, 
 ghost use Rattle.tp_outside.specs.Causes.{HasCause, Rose};
 ghost use Rattle.tp_outside.specs.Bytes.{AppendsFront};
 ghost use Rattle.std.specs.Io.KnownBytes.{Appends, IsAtEnd, Keeps};
-ghost use Rattle.tp_driver.specs.Driving.{IsDriven, IsServed};
+ghost use Rattle.tp_driver.specs.Driving.{IsDriven};
+ghost use Rattle.tp_netbook.specs.Served.{IsServed};
 ghost use Rattle.tp_print.specs.Report.{report_text};
 ghost use Rattle.tp_rules.specs.Pending.{IsPickedRun, IsQuiet};
 ghost use Rattle.tp_rules.specs.Runs.{IsRun};

@@ -239,7 +239,7 @@ fn faulty_texts_are_refused(rt: HostRuntime) -> Result<(), Fail> {
 #[test]
 fn what_is_not_served_is_unbuilt(rt: HostRuntime) -> Result<(), Fail> {
     let texts: [&[u8]; 2] = [
-        b"tempo 1\nshape 1 3 1\ncrash 1.1 after 0\nend\n",
+        b"tempo 1\nshape 1 3 1\ndrop p1.1 p1.2 1\nend\n",
         b"tempo 1\nshape 1 3 1\nrepeat all 2\nend\n",
     ];
     for text in texts.iter() {

@@ -1,5 +1,5 @@
 ghost use Rattle.std.specs.Prelude.{◌≡◌, ◌≢◌, ◌≤◌, None, Some, length, IfErr, IfOk, OnOk};
-ghost use Rattle.tp_driver.specs.Driving.{IsServed};
+ghost use Rattle.tp_netbook.specs.Served.{IsServed};
 ghost use Rattle.tp_run.specs.Texts.{INPUT_MOST, IsTextOf, cause_of, is_built, is_end, read_to_end, script_of};
 ghost use Rattle.tp_run.specs.TopCall.{IsRefusedFor};
 ghost use Rattle.tp_script.specs.Print.{script_lines};
@@ -8,6 +8,7 @@ ghost use Rattle.tp_text.specs.Lines.{lines_of};
 
 use crate::finished::Cause;
 use std::alloc::Global;
+use tp_netbook::is_served;
 use tp_script::{Script, ScriptCause, ScriptError, ScriptFault, read_script};
 use tp_text::{LineFault, Lines};
 
@@ -84,5 +85,5 @@ fn is_end(lines: &mut Lines) -> bool
 fn is_built(script: &Script) -> bool
     ensures { result ≡ is_built script.now }
 {
-    script.plan.is_empty()
+    is_served(script)
 }

@@ -1,9 +1,18 @@
-use Rattle.tp_driver.proofs.Waits.{none_driven, none_waits}
+use Rattle.std.proofs.Common.{sym, subst}
+use Rattle.tp_driver.proofs.Turns.{none_driven}
 use Rattle.tp_driver.proofs.steps.drive.Goals as goal
+use Rattle.tp_netbook.specs.Netbook.{IsNetbook}
 
-pub loop-waiting-init : goal.loop-waiting-init
-loop-waiting-init g c = (
+pub returns-in_err-netbook-clause-driven : goal.returns-in_err-netbook-clause-driven
+returns-in_err-netbook-clause-driven g c = none_driven c.args.script.now c.args.journal.now c.requires.empty
+
+pub returns-in_err-next-clause-driven : goal.returns-in_err-next-clause-driven
+returns-in_err-next-clause-driven g c = none_driven c.args.script.now c.args.journal.now c.requires.empty
+
+pub loop-next-init : goal.loop-next-init
+loop-next-init g c = (
   none_driven c.args.script.now c.args.journal.now c.requires.empty,
-  none_waits c.args.script.now c.args.journal.now c.new-waiting.result c.requires.empty c.new-waiting.ensures,
+  subst (λ j. IsNetbook c.args.script.now j c.in_ok-netbook.netbook) (sym c.requires.empty) c.in_ok-netbook.ensures,
   c.requires.cast,
+  c.in_ok-next.ensures c.args.script.now c.args.journal.now c.requires.cast,
 )

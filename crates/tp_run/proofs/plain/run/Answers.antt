@@ -1,4 +1,4 @@
-use Rattle.tp_driver.proofs.Waits.{none_driven}
+use Rattle.tp_driver.proofs.Turns.{none_driven}
 use Rattle.tp_run.proofs.plain.run.Goals as goal
 
 pub returns-in_default-clause-driven : goal.returns-in_default-clause-driven
