@@ -59,6 +59,7 @@ pub(crate) enum Cue {
         ballot: u64,
     },
     Recover,
+    /// It announces what it promised, if it may.
     Announce,
     Crash,
 }

@@ -1,9 +1,9 @@
 //! A command is decided by the proposals of its fast quorum.
 
-use crate::cue::{Cue, ID};
+use crate::cue::Cue;
 use crate::stage::{of_five, of_three};
 use std::test::Fail;
-use tp_base::{ActorName, PartitionId, Rank, Site, Stamp};
+use tp_base::{ActorName, PartitionId, Rank, Site};
 use tp_rules::Actor;
 
 #[test]
@@ -19,8 +19,7 @@ fn named_after_its_site(rt: HostRuntime) -> Result<(), Fail> {
 
 #[test]
 fn decided_by_two_of_three(rt: HostRuntime) -> Result<(), Fail> {
-    let mut home = of_three(rt.alloc(), 1)?;
-    home.tell(
+    of_three(rt.alloc(), 1)?.tell(
         &rt,
         &[
             (
@@ -32,16 +31,12 @@ fn decided_by_two_of_three(rt: HostRuntime) -> Result<(), Fail> {
                 "MCommit partition 1 stamp 1 to p1.2 p1.3; MCommitted stamp 1 to e1.1; stamp 1",
             ),
         ],
-    )?;
-    assert_eq!(rt; home.process.stamp(ID), Some(Stamp(1)));
-    assert!(rt; !home.process.spent());
-    Ok(())
+    )
 }
 
 #[test]
 fn two_made_the_greatest_of_four(rt: HostRuntime) -> Result<(), Fail> {
-    let mut home = of_five(rt.alloc(), 1)?;
-    home.tell(
+    of_five(rt.alloc(), 1)?.tell(
         &rt,
         &[
             (
@@ -61,8 +56,7 @@ fn two_made_the_greatest_of_four(rt: HostRuntime) -> Result<(), Fail> {
 
 #[test]
 fn submitted_twice_and_acknowledged_twice(rt: HostRuntime) -> Result<(), Fail> {
-    let mut home = of_five(rt.alloc(), 1)?;
-    home.tell(
+    of_five(rt.alloc(), 1)?.tell(
         &rt,
         &[
             (
@@ -80,8 +74,7 @@ fn submitted_twice_and_acknowledged_twice(rt: HostRuntime) -> Result<(), Fail> {
 
 #[test]
 fn proposed_once(rt: HostRuntime) -> Result<(), Fail> {
-    let mut second = of_three(rt.alloc(), 2)?;
-    second.tell(
+    of_three(rt.alloc(), 2)?.tell(
         &rt,
         &[
             (
@@ -95,8 +88,7 @@ fn proposed_once(rt: HostRuntime) -> Result<(), Fail> {
 
 #[test]
 fn proposed_above_a_bump(rt: HostRuntime) -> Result<(), Fail> {
-    let mut fourth = of_five(rt.alloc(), 4)?;
-    fourth.tell(
+    of_five(rt.alloc(), 4)?.tell(
         &rt,
         &[
             (Cue::MBump { stamp: 1 }, "clock 1"),

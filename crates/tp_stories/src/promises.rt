@@ -3,26 +3,21 @@
 use crate::cue::Cue;
 use crate::stage::{of_five, of_three};
 use std::test::Fail;
-use tp_rules::{Actor, Inner};
 
 #[test]
 fn announced_once(rt: HostRuntime) -> Result<(), Fail> {
-    let mut second = of_three(rt.alloc(), 2)?;
-    assert_eq!(rt; second.process.next_inner(), None);
-    second.tell(
+    of_three(rt.alloc(), 2)?.tell(
         &rt,
-        &[(
-            Cue::MPropose { from: 1, floor: 5 },
-            "MProposeAck stamp 5 to p1.1; clock 5",
-        )],
-    )?;
-    assert_eq!(rt; second.process.next_inner(), Some(Inner::Announce));
-    second.tell(
-        &rt,
-        &[(Cue::Announce, "MPromises lo 0 hi 5 1.1@5 to e1.1 e1.2 e1.3")],
-    )?;
-    assert_eq!(rt; second.process.next_inner(), None);
-    Ok(())
+        &[
+            (Cue::Announce, ""),
+            (
+                Cue::MPropose { from: 1, floor: 5 },
+                "MProposeAck stamp 5 to p1.1; clock 5",
+            ),
+            (Cue::Announce, "MPromises lo 0 hi 5 1.1@5 to e1.1 e1.2 e1.3"),
+            (Cue::Announce, ""),
+        ],
+    )
 }
 
 #[test]

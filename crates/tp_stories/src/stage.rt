@@ -5,7 +5,7 @@ use crate::telling::{add, text_of};
 use std::alloc::Global;
 use std::process::Abort;
 use std::test::Fail;
-use tp_base::{NoMemory, PartitionId, Rank, Site, Stamp};
+use tp_base::{NoMemory, PartitionId, Rank, Sequence, Site, Stamp};
 use tp_ops::Command;
 use tp_process::Process;
 use tp_rules::{Actor, Inner, Outputs};
@@ -46,6 +46,7 @@ impl Stage {
             let seen = self.take(*cue)?;
             assert_eq!(rt; seen.as_str(), *expected, "at {cue:?}");
         }
+        assert!(rt; !self.process.spent());
         Ok(())
     }
 
@@ -85,8 +86,15 @@ impl Stage {
         }
         match cue {
             Cue::Recover => self.process.fire(Inner::Recover(ID)),
-            Cue::Announce => self.process.fire(Inner::Announce),
+            Cue::Announce => self.announce(),
             _ => self.process.fire(Inner::Crash),
+        }
+    }
+
+    fn announce(&mut self) -> Result<Outputs, NoMemory> {
+        match self.process.next_inner() {
+            Some(inner) => self.process.fire(inner),
+            None => Ok(Sequence::new(self.alloc)),
         }
     }
 }
