@@ -13,7 +13,6 @@ use Rattle.tp_ops.specs.declared.command.Command.{Command}
 use Rattle.tp_process.proofs.Learning.{changed, put_back}
 use Rattle.tp_process.proofs.LowStamps.{kept_low, trying_low, with_ballot_low, with_proposal_low}
 use Rattle.tp_process.proofs.Proposing.{later, same_room, stamp_low}
-use Rattle.tp_process.proofs.Unheeded.{both_same}
 use Rattle.tp_process.specs.Sheets.{ChangesSheet, sheet_at}
 use Rattle.tp_process.specs.State.{Agrees, site_sheet}
 use Rattle.tp_rules.specs.Addresses.{is_command_at}

@@ -12,7 +12,5 @@ mod process;
 mod recovery;
 mod sheets;
 mod submission;
-#[cfg(test)]
-mod tests;
 
 pub use process::Process;

@@ -11,7 +11,7 @@ use tp_topology::Topology;
 use tp_wire::{Body, Message};
 
 /// The site of a process, in the shape of its store.
-#[derive(Clone, Copy, Debug)]
+#[derive(Clone, Copy)]
 pub(crate) struct Place {
     pub(crate) topology: Topology,
     pub(crate) site: Site,

@@ -1,5 +1,5 @@
-use Rattle.std.proofs.Common.{sym, ap, subst, ◌∙◌}
-use Rattle.tp_process.proofs.Accepting.{accepts_now, consensus_refused, consensus_taken}
+use Rattle.std.proofs.Common.{sym, subst, ◌∙◌}
+use Rattle.tp_process.proofs.Accepting.{accepts_now, consensus_taken}
 use Rattle.tp_process.specs.State.{IsState}
 use Rattle.tp_rules.specs.Process.{Moved, with_sheet}
 use Rattle.tp_rules.specs.Sheet.{kept, with_accepted}
