@@ -68,7 +68,7 @@ ready_is state id (q ∷ qs) declared none = go (has same_id id state.declared) 
     go true e all = all
     go false e all = absurd cc
 
-unready_is : (state : ExecutorState) (id : CommandId) (qs : List ℕ) (q : ℕ) → first_unheard state id qs ≡ Some q → is_ready state id qs ≡ false
+pub unready_is : (state : ExecutorState) (id : CommandId) (qs : List ℕ) (q : ℕ) → first_unheard state id qs ≡ Some q → is_ready state id qs ≡ false
 unready_is state id [] q some = absurd cc
 unready_is state id (r ∷ qs) q some = go (has same_id id state.declared) (not_all_heard state id (r ∷ qs) q some)
   where
@@ -76,7 +76,7 @@ unready_is state id (r ∷ qs) q some = go (has same_id id state.declared) (not_
     go true e = e
     go false e = refl
 
-ready_declared : (state : ExecutorState) (id : CommandId) (qs : List ℕ) → is_ready state id qs ≡ true → is_undeclared state id qs ≡ false
+pub ready_declared : (state : ExecutorState) (id : CommandId) (qs : List ℕ) → is_ready state id qs ≡ true → is_undeclared state id qs ≡ false
 ready_declared state id [] ready = refl
 ready_declared state id (q ∷ qs) ready = ap not (and_parts (has same_id id state.declared) (list_all (is_heard state id) (q ∷ qs)) ready).0
 
@@ -94,7 +94,7 @@ stable_below shape told committed n m le e =
 pub stable_to : (shape : Shape) (state : ExecutorState) (n stamp : ℕ) → IsThreshold shape state n → stamp ≤ n → is_stable shape state.told (committed_ids state) stamp ≡ true
 stable_to shape state n stamp top le = stable_below shape state.told (committed_ids state) n stamp le top.stable
 
-unstable_past : (shape : Shape) (state : ExecutorState) (n stamp : ℕ) → IsThreshold shape state n → n < stamp → is_stable shape state.told (committed_ids state) stamp ≡ false
+pub unstable_past : (shape : Shape) (state : ExecutorState) (n stamp : ℕ) → IsThreshold shape state n → n < stamp → is_stable shape state.told (committed_ids state) stamp ≡ false
 unstable_past shape state n stamp top lt = go (is_stable shape state.told (committed_ids state) stamp) refl
   where
     go : (b : Bool) → is_stable shape state.told (committed_ids state) stamp ≡ b → b ≡ false

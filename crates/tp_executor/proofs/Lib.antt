@@ -2,4 +2,5 @@ pub mod Accessed
 pub mod Announced
 pub mod Answering
 pub mod Least
+pub mod OneAnswer
 pub mod Steps

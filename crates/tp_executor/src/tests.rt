@@ -64,15 +64,6 @@ fn on_both(alloc: Global) -> Result<Command, NoMemory>
     })
 }
 
-/// The executor of the first site.
-fn executor(alloc: Global, partitions: u8, replicas: u8) -> Result<Executor, Fail>
-    ensures { IfOk result IsUsable }
-{
-    let topology = Topology::new(partitions, replicas, 1)?;
-    let executor = Executor::new(alloc, &topology, site(1, 1))?;
-    Ok(executor)
-}
-
 fn takes(executor: &mut Executor, from: ActorName, body: Body) -> Result<(), NoMemory>
     requires usable { IsUsable executor.old }
     requires range { IsInRange (record { from = from; to = ActorName.Executor (record { partition = record { 0 = 1 }; rank = record { 0 = 1 } }); body = body }) }
@@ -185,111 +176,96 @@ fn is_result(body: &Body) -> bool {
     }
 }
 
-/// Four replicas, of which one told nothing.
-fn with_three_fronts(alloc: Global) -> Result<Executor, Fail>
-    ensures { IfOk result IsUsable }
+/// Three of four replicas told of their promises.
+fn is_not_above_the_threshold(executor: &mut Executor, alloc: Global) -> Result<bool, NoMemory>
+    requires { IsUsable executor.old }
 {
-    let mut executor = executor(alloc, 1, 4)?;
-    tells(&mut executor, alloc, 1, 7)?;
-    tells(&mut executor, alloc, 2, 7)?;
-    tells(&mut executor, alloc, 3, 5)?;
-    Ok(executor)
+    commits(executor, on_one(alloc)?, 7)?;
+    tells(executor, alloc, 1, 7)?;
+    tells(executor, alloc, 2, 7)?;
+    tells(executor, alloc, 3, 5)?;
+    let why = Why::NotStable {
+        stamp: Stamp(7),
+        threshold: 5,
+    };
+    Ok(executor.may_execute() == Err(why))
 }
 
-/// Three replicas, of which two told of their first promise.
-fn with_two_fronts(alloc: Global) -> Result<Executor, Fail>
-    ensures { IfOk result IsUsable }
+/// Two of three replicas told of their first promise.
+fn two_tell(executor: &mut Executor, alloc: Global) -> Result<(), NoMemory>
+    requires { IsUsable executor.old }
+    ensures { OnOk result (IsUsable executor.new) }
 {
-    let mut executor = executor(alloc, 2, 3)?;
-    tells(&mut executor, alloc, 1, 1)?;
-    tells(&mut executor, alloc, 3, 1)?;
-    Ok(executor)
+    tells(executor, alloc, 1, 1)?;
+    tells(executor, alloc, 3, 1)
 }
 
-/// The same, and a command on one partition was committed and executed.
-fn that_executed(alloc: Global) -> Result<Executor, Fail>
-    ensures { IfOk result IsUsable }
+/// The command is stable, executed, and committed again.
+fn is_executed_once(executor: &mut Executor, alloc: Global) -> Result<bool, NoMemory>
+    requires { IsUsable executor.old }
 {
-    let mut executor = with_two_fronts(alloc)?;
-    commits(&mut executor, on_one(alloc)?, 1)?;
-    fires(&mut executor, alloc)?;
-    Ok(executor)
+    two_tell(executor, alloc)?;
+    commits(executor, on_one(alloc)?, 1)?;
+    let ready = executor.may_execute() == Ok(ID);
+    let answered = is_one_result(&fires(executor, alloc)?);
+    commits(executor, on_one(alloc)?, 1)?;
+    let over = executor.may_execute() == Err(Why::Nothing);
+    Ok(ready && answered && over)
 }
 
-/// The same, and a command on both partitions was committed and declared.
-fn that_declared(alloc: Global) -> Result<Executor, Fail>
-    ensures { IfOk result IsUsable }
+/// The command on both partitions is stable and declared.
+fn is_declared(executor: &mut Executor, alloc: Global) -> Result<bool, NoMemory>
+    requires { IsUsable executor.old }
+    ensures { OnOk result (IsUsable executor.new) }
 {
-    let mut executor = with_two_fronts(alloc)?;
-    commits(&mut executor, on_both(alloc)?, 1)?;
-    fires(&mut executor, alloc)?;
-    Ok(executor)
+    two_tell(executor, alloc)?;
+    commits(executor, on_both(alloc)?, 1)?;
+    let undeclared = executor.may_execute() == Err(Why::NotDeclared);
+    let told = are_declarations(&fires(executor, alloc)?);
+    Ok(undeclared && told)
+}
+
+/// Its own partition declares the command, and then the other one.
+fn waits_for_the_other(executor: &mut Executor) -> Result<bool, NoMemory>
+    requires { IsUsable executor.old }
+{
+    hears(executor, 1)?;
+    let waits = executor.may_execute() == Err(Why::Waits(PartitionId(2)));
+    hears(executor, 2)?;
+    let ready = executor.may_execute() == Ok(ID);
+    Ok(waits && ready)
 }
 
 #[test]
 fn nothing_at_first(rt: HostRuntime) -> Result<(), Fail> {
-    let executor = executor(rt.alloc(), 1, 3)?;
-    assert_eq!(rt; executor.may_execute(), Err(Why::Nothing));
-    assert_eq!(rt; executor.name(), ActorName::Executor(site(1, 1)));
-    assert!(rt; !executor.spent());
+    let topology = Topology::new(1, 3, 1)?;
+    let executor = Executor::new(rt.alloc(), &topology, site(1, 1))?;
+    assert!(rt; executor.may_execute() == Err(Why::Nothing));
+    assert!(rt; executor.name() == ActorName::Executor(site(1, 1)));
     Ok(())
 }
 
 #[test]
 fn not_above_the_threshold(rt: HostRuntime) -> Result<(), Fail> {
-    let alloc = rt.alloc();
-    let mut executor = with_three_fronts(alloc)?;
-    commits(&mut executor, on_one(alloc)?, 7)?;
-    let why = Why::NotStable {
-        stamp: Stamp(7),
-        threshold: 5,
-    };
-    assert_eq!(rt; executor.may_execute(), Err(why));
-    Ok(())
-}
-
-#[test]
-fn executed_once_it_is_stable(rt: HostRuntime) -> Result<(), Fail> {
-    let alloc = rt.alloc();
-    let mut executor = with_two_fronts(alloc)?;
-    commits(&mut executor, on_one(alloc)?, 1)?;
-    assert_eq!(rt; executor.may_execute(), Ok(ID));
-    assert!(rt; is_one_result(&fires(&mut executor, alloc)?));
+    let topology = Topology::new(1, 4, 1)?;
+    let mut executor = Executor::new(rt.alloc(), &topology, site(1, 1))?;
+    assert!(rt; is_not_above_the_threshold(&mut executor, rt.alloc())?);
     Ok(())
 }
 
 #[test]
 fn executed_once(rt: HostRuntime) -> Result<(), Fail> {
-    let alloc = rt.alloc();
-    let mut executor = that_executed(alloc)?;
-    commits(&mut executor, on_one(alloc)?, 1)?;
-    assert_eq!(rt; executor.may_execute(), Err(Why::Nothing));
+    let topology = Topology::new(2, 3, 1)?;
+    let mut executor = Executor::new(rt.alloc(), &topology, site(1, 1))?;
+    assert!(rt; is_executed_once(&mut executor, rt.alloc())?);
     Ok(())
 }
 
 #[test]
-fn declared_once_it_is_stable(rt: HostRuntime) -> Result<(), Fail> {
-    let alloc = rt.alloc();
-    let mut executor = with_two_fronts(alloc)?;
-    commits(&mut executor, on_both(alloc)?, 1)?;
-    assert_eq!(rt; executor.may_execute(), Err(Why::NotDeclared));
-    assert!(rt; are_declarations(&fires(&mut executor, alloc)?));
-    Ok(())
-}
-
-#[test]
-fn its_own_partition_says_nothing(rt: HostRuntime) -> Result<(), Fail> {
-    let mut executor = that_declared(rt.alloc())?;
-    hears(&mut executor, 1)?;
-    assert_eq!(rt; executor.may_execute(), Err(Why::Waits(PartitionId(2))));
-    Ok(())
-}
-
-#[test]
-fn executed_once_the_other_partition_is_heard(rt: HostRuntime) -> Result<(), Fail> {
-    let mut executor = that_declared(rt.alloc())?;
-    hears(&mut executor, 2)?;
-    assert_eq!(rt; executor.may_execute(), Ok(ID));
-    assert_eq!(rt; executor.next_inner(), Some(Inner::Execute(ID)));
+fn declared_and_waiting_for_the_other_partition(rt: HostRuntime) -> Result<(), Fail> {
+    let topology = Topology::new(2, 3, 1)?;
+    let mut executor = Executor::new(rt.alloc(), &topology, site(1, 1))?;
+    assert!(rt; is_declared(&mut executor, rt.alloc())?);
+    assert!(rt; waits_for_the_other(&mut executor)?);
     Ok(())
 }
