@@ -1,18 +1,16 @@
 -- What follows for the answer of a waiting command, and which step it allows.
-use Rattle.std.proofs.Common.{◌≡◌, ℕ, ◌≤◌, ◌<◌, Bool, true, false, not, ◌&&◌, ◌||◌, cond, List, [], ◌∷◌, map, Option, Some, None, refl, sym, ap, subst, ◌∙◌, arith}
+use Rattle.std.proofs.Common.{◌≡◌, ℕ, ◌≤◌, ◌<◌, Bool, true, false, not, ◌&&◌, ◌||◌, cond, List, [], ◌∷◌, map, Option, Some, None, refl, ap, subst, ◌∙◌, arith}
 use Rattle.std.specs.List.{list_all, list_any}
-use Rattle.std.specs.Prelude.{◌==◌, find, nat_le, Result, Ok, Err, option_map}
+use Rattle.std.specs.Prelude.{◌==◌, find, Err}
 use Rattle.std.proofs.lemmas.Bool.{and_parts, le-leb, leb-true}
 use Rattle.tp_base.specs.Lists.{has}
 use Rattle.tp_base.specs.Names.{same_id}
 use Rattle.tp_base.specs.declared.names.CommandId.{CommandId}
-use Rattle.tp_base.specs.declared.names.PartitionId.{PartitionId}
 use Rattle.tp_base.specs.declared.names.Site.{Site}
 use Rattle.tp_base.specs.declared.names.Stamp.{Stamp}
 use Rattle.tp_mstable.specs.Declarations.{is_heard as is_heard_in}
 use Rattle.tp_rules.specs.Addresses.{others_accessed}
-use Rattle.tp_rules.specs.Executor.{Committed, ExecutorState, Heard, committed_ids, enabled_of, is_heard, is_ready, is_undeclared, may_declare, may_execute}
-use Rattle.tp_rules.specs.declared.event.Inner.{Inner}
+use Rattle.tp_rules.specs.Executor.{Committed, ExecutorState, Heard, committed_ids, enabled_of, is_heard, is_ready, is_undeclared}
 use Rattle.tp_rules.specs.declared.event.Inner.TheVariants.{Declare, Execute}
 use Rattle.tp_topology.proofs.Passing.{all_below, count_more}
 use Rattle.tp_topology.specs.Counting.{all_up_to, count_up_to}

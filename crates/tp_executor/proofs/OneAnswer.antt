@@ -1,16 +1,15 @@
 -- There is one answer at a state, so each case of it is given exactly where what it says holds.
-use Rattle.std.proofs.Common.{◌≡◌, ℕ, ◌≤◌, ◌<◌, Bool, true, false, List, Option, Some, None, refl, sym, ap, subst, ◌∙◌, arith}
+use Rattle.std.proofs.Common.{◌≡◌, ℕ, ◌≤◌, ◌<◌, Bool, false, List, Option, Some, None, refl, sym, ap, subst, ◌∙◌, arith}
 use Rattle.std.specs.Prelude.{Result, Ok, Err}
 use Rattle.std.proofs.lemmas.Bool.{and_parts}
 use Rattle.tp_base.specs.declared.names.CommandId.{CommandId}
-use Rattle.tp_base.specs.declared.names.PartitionId.{PartitionId}
 use Rattle.tp_base.specs.declared.names.Site.{Site}
 use Rattle.tp_base.specs.declared.names.Stamp.{Stamp}
 use Rattle.tp_rules.specs.Addresses.{others_accessed}
-use Rattle.tp_rules.specs.Executor.{Committed, ExecutorState, committed_ids, is_ready, is_undeclared, least, may_execute, waiting}
+use Rattle.tp_rules.specs.Executor.{Committed, ExecutorState, committed_ids, is_ready, least, waiting}
 use Rattle.tp_topology.specs.Shape.{Shape}
 use Rattle.tp_topology.specs.Stability.{is_stable}
-use Rattle.tp_executor.specs.Answers.{IsAnswer, IsAnswerFor, IsAnswerOf, IsThreshold, first_unheard}
+use Rattle.tp_executor.specs.Answers.{IsAnswer, IsAnswerFor, IsAnswerOf, IsThreshold}
 use Rattle.tp_executor.specs.declared.why.Why.{Why}
 use Rattle.tp_executor.specs.declared.why.Why.TheVariants.{Nothing, NotStable, NotDeclared, Waits}
 use Rattle.tp_executor.proofs.Answering.{ready_declared, unready_is, unstable_past}

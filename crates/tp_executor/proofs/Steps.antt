@@ -1,6 +1,6 @@
 -- How an executor's fields go on with the state of the rules. Used by the functions of each step.
 use Rattle.std.proofs.Common.{◌≡◌, ℕ, inl, inr, Bool, true, false, not, cond, List, [], ◌∷◌, Option, Some, None, Result, Ok, Err, refl, sym, ap, subst, ◌∙◌}
-use Rattle.std.specs.Prelude.{◌==◌, filter, IfOk, OnOk}
+use Rattle.std.specs.Prelude.{filter, IfOk, OnOk}
 use Rattle.tp_base.specs.declared.names.ActorName.TheVariants.{Executor as ExecutorName, Session}
 use Rattle.tp_base.specs.declared.names.CommandId.{CommandId}
 use Rattle.tp_base.specs.declared.names.Site.{Site}

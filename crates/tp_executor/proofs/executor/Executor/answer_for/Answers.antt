@@ -1,9 +1,7 @@
-use Rattle.std.proofs.Common.{◌≡◌, ◌&&◌, Bool, true, refl, sym, ap, ◌∙◌}
+use Rattle.std.proofs.Common.{◌&&◌, Bool, refl, sym, ap, ◌∙◌}
 use Rattle.tp_rules.specs.Addresses.{others_accessed}
-use Rattle.tp_rules.specs.Executor.{ExecutorState, committed_ids, is_ready}
-use Rattle.tp_topology.specs.Stability.{is_stable}
-use Rattle.tp_executor.specs.Answers.{IsThreshold}
-use Rattle.tp_executor.specs.States.{IsState, declarations_of}
+use Rattle.tp_rules.specs.Executor.{committed_ids, is_ready}
+use Rattle.tp_executor.specs.States.{declarations_of}
 use Rattle.tp_executor.proofs.Answering.{ready_is, stable_to, unheard_is}
 use Rattle.tp_executor.proofs.executor.Executor.answer_for.Goals as goal
 

@@ -1,4 +1,4 @@
-use Rattle.std.proofs.Common.{refl, sym, ap, ◌∙◌}
+use Rattle.std.proofs.Common.{refl}
 use Rattle.tp_base.proofs.Options.{when}
 use Rattle.tp_executor.proofs.Steps.{commits, commits_again}
 use Rattle.tp_executor.proofs.executor.Executor.commit.Goals as goal
