@@ -1,6 +1,6 @@
 pub mod Accessed
-pub mod Bindings
-pub mod Fronts
-pub mod Lists
-pub mod Ready
+pub mod Announced
+pub mod Answering
+pub mod Least
+pub mod OneAnswer
 pub mod Steps

@@ -1,4 +1,2 @@
-pub mod Known
-pub mod Fronts
-pub mod Bindings
+pub mod Answers
 pub mod States

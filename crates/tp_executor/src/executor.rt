@@ -1,22 +1,25 @@
-ghost use Rattle.std.specs.Prelude.{◌≡◌, ◌∷◌, [], Some, false, IfOk, OnOk};
+ghost use Rattle.std.specs.Prelude.{◌≡◌, ◌&&◌, ◌∷◌, ◌<◌, [], Some, true, false, IfOk, OnOk};
+ghost use Rattle.tp_base.specs.Names.{same_name};
+ghost use Rattle.tp_promise.specs.Books.{replicas_of};
+ghost use Rattle.tp_promise.specs.Pages.{AreTold};
 ghost use Rattle.tp_rules.specs.Acts.{ExecutorAt};
-ghost use Rattle.tp_rules.specs.Addresses.{is_command_at, is_site_of, message, others_accessed};
-ghost use Rattle.tp_rules.specs.Executor.{ExecutorState, enabled_of, is_ready, is_undeclared, on_committed, on_declare, on_execute, on_message, on_promises, on_stable};
-ghost use Rattle.tp_wire.specs.Ranges.{IsInRange};
+ghost use Rattle.tp_rules.specs.Addresses.{is_name_of, message, others_accessed};
+ghost use Rattle.tp_rules.specs.Executor.{ExecutorState, enabled, enabled_of, is_undeclared, on_committed, on_declare, on_execute, on_inner, on_message, on_promises, on_stable};
+ghost use Rattle.tp_wire.specs.Ranges.{IsExecutor, IsInRange, IsProcess};
 
-use crate::book::Book;
+use crate::addressed::{is_command_at, is_name_of};
 use crate::declaration::declarations;
 use crate::others::{awaited, is_alone};
-use crate::queue::{Committed, Queue};
-use crate::store::Store;
-use crate::telling::Telling;
+use crate::why::Why;
 use std::alloc::Global;
-use tp_base::{
-    ActorName, CommandId, Duplicate, Key, NoMemory, Pairs, PartitionId, Sequence, Site, Stamp,
-};
+use tp_base::{ActorName, CommandId, Duplicate, Key, NoMemory, Pairs, Sequence, Site, Stamp};
 use tp_mstable::Declared;
-use tp_ops::{Answers, Command, accesses};
+use tp_ops::{Answers, Command, part};
+use tp_promise::Book;
+use tp_queue::Queue;
 use tp_rules::{Actor, Inner, Outputs};
+use tp_stable::threshold;
+use tp_store::Store;
 use tp_topology::Topology;
 use tp_wire::{Body, Message};
 
@@ -31,42 +34,24 @@ pub struct Executor {
     store: Store,
     declared: Declared,
     spent: bool,
-}
-
-/// Whether a site is of the store's shape.
-fn is_site_of(topology: &Topology, site: Site) -> bool
-    ensures { result ≡ is_site_of topology.now site }
-{
-    1 <= site.partition.0
-        && site.partition.0 <= topology.partitions()
-        && 1 <= site.rank.0
-        && site.rank.0 <= topology.replicas()
-}
-
-/// Whether a command's home is a rank, and it accesses a partition.
-fn is_command_at(topology: &Topology, p: PartitionId, command: &Command) -> bool
-    ensures { result ≡ is_command_at topology.now p.0 command.now }
-{
-    1 <= command.home.0
-        && command.home.0 <= topology.replicas()
-        && accesses(command, topology.partitions(), p)
+    ghost ranks: { replicas_of book ≡ topology.replicas },
 }
 
 /// The answers of a partition's operations, to the command's session.
 fn result_of(
     alloc: Global,
     site: Site,
-    command: &Command,
+    id: CommandId,
     answers: Answers,
 ) -> Result<Outputs, NoMemory>
-    ensures { IfOk result (λ outputs. outputs ≡ message (ActorName.Executor site) (ActorName.Session command.now.id.session) (Body.MResult command.now.id site.partition answers) ∷ []) }
+    ensures { IfOk result (λ outputs. outputs ≡ message (ActorName.Executor site) (ActorName.Session id.session) (Body.MResult id site.partition answers) ∷ []) }
 {
     let mut outputs = Sequence::new(alloc);
     outputs.add(Message {
         from: ActorName::Executor(site),
-        to: ActorName::Session(command.id.session),
+        to: ActorName::Session(id.session),
         body: Body::MResult {
-            id: command.id,
+            id,
             partition: site.partition,
             answers,
         },
@@ -75,6 +60,7 @@ fn result_of(
 }
 
 impl Executor {
+    ghost use Rattle.tp_executor.specs.Answers.{IsAnswer, IsAnswerFor};
     ghost use Rattle.tp_executor.specs.States.{IsState, Stands, identity};
 
     /// An executor that was told nothing.
@@ -87,7 +73,7 @@ impl Executor {
             alloc,
             topology: *topology,
             site,
-            book: Book::new(alloc),
+            book: Book::new(alloc, topology)?,
             queue: Queue::new(alloc),
             store: Store::new(alloc),
             declared: Declared::new(alloc),
@@ -95,68 +81,137 @@ impl Executor {
         })
     }
 
-    fn tell(&mut self, from: Site, lo: u64, hi: u64, pairs: &Pairs) -> Result<(), NoMemory>
-        ensures identity { identity self.new ≡ identity self.old }
-        ensures state { OnOk result ((state : ExecutorState) → IsState self.old state → IsState self.new (on_promises self.old.site (ActorName.Process from) lo hi pairs.now state).0) }
+    /// The committed command with the least key that is not executed, where the rules let it
+    /// execute now, or why they don't.
+    pub fn may_execute(&self) -> Result<CommandId, Why>
+        ensures { (state : ExecutorState) → IsState self.now state → IsAnswer self.now.topology self.now.site state result }
     {
-        if from.partition != self.site.partition {
-            return Ok(());
+        match self.queue.head() {
+            Some((key, command)) => self.answer_for(key, command),
+            None => Err(Why::Nothing),
         }
-        self.book.tell(Telling {
-            rank: from.rank,
-            lo,
-            hi,
-            attached: pairs.copy()?,
-        })
+    }
+
+    /// The same of a command, as if it had the least key.
+    fn answer_for(&self, key: Key, command: &Command) -> Result<CommandId, Why>
+        ensures { (state : ExecutorState) → IsState self.now state → IsAnswerFor self.now.topology self.now.site state (record { key = key; command = command.now }) result }
+    {
+        let threshold = threshold(&self.book, &self.topology);
+        if threshold < key.stamp.0 {
+            return Err(Why::NotStable {
+                stamp: key.stamp,
+                threshold,
+            });
+        }
+        if self.is_undeclared(key.id, command) {
+            return Err(Why::NotDeclared);
+        }
+        let p = self.site.partition;
+        match awaited(&self.topology, p, &self.declared, key.id, command) {
+            Some(q) => Err(Why::Waits(q)),
+            None => Ok(key.id),
+        }
+    }
+
+    /// Whether a command is on several partitions, and isn't declared here.
+    fn is_undeclared(&self, id: CommandId, command: &Command) -> bool
+        ensures { (state : ExecutorState) → IsState self.now state → result ≡ is_undeclared state id (others_accessed self.now.topology command.now self.now.site.partition.0) }
+    {
+        !is_alone(&self.topology, self.site.partition, command) && !self.declared.sent(id)
+    }
+
+    /// The step that the executor may make where this command has the least key.
+    fn step_for(&self, key: Key, command: &Command) -> Option<Inner>
+        ensures { (state : ExecutorState) → IsState self.now state → result ≡ enabled_of self.now.topology self.now.site state (Some (record { key = key; command = command.now })) }
+    {
+        match self.answer_for(key, command) {
+            Ok(id) => Some(Inner::Execute(id)),
+            Err(why) => match why {
+                Why::NotDeclared => Some(Inner::Declare(key.id)),
+                _ => None,
+            },
+        }
+    }
+
+    /// The step that the executor may make.
+    fn step(&self) -> Option<Inner>
+        ensures { (state : ExecutorState) → IsState self.now state → result ≡ enabled self.now.topology self.now.site state }
+    {
+        match self.queue.head() {
+            Some((key, command)) => self.step_for(key, command),
+            None => None,
+        }
+    }
+
+    /// A process told of its promises.
+    fn tell(&mut self, from: ActorName, lo: u64, hi: u64, pairs: &Pairs) -> Result<(), NoMemory>
+        requires process { IsProcess from }
+        requires from { is_name_of self.old.topology from ≡ true }
+        requires some { lo < hi }
+        requires attached { AreTold lo hi pairs.now }
+        ensures identity { identity self.new ≡ identity self.old }
+        ensures state { OnOk result ((state : ExecutorState) → IsState self.old state → IsState self.new (on_promises self.old.site from lo hi pairs.now state).0) }
+    {
+        match from {
+            ActorName::Process(from) if from.partition == self.site.partition => {
+                self.book.add(from.rank, lo, hi, pairs)
+            }
+            _ => Ok(()),
+        }
     }
 
     fn commit(&mut self, command: &Command, stamp: Stamp) -> Result<(), NoMemory>
         ensures identity { identity self.new ≡ identity self.old }
         ensures state { OnOk result ((state : ExecutorState) → IsState self.old state → IsState self.new (on_committed command.now stamp.0 state).0) }
     {
-        if self.book.is_committed(command.id) {
-            return Ok(());
-        }
         let key = Key {
             stamp,
             id: command.id,
         };
-        let command = command.copy()?;
-        self.queue.add(Committed { key, command })?;
-        self.book.commit(key.id)
+        if !self.queue.put(key, command.copy()?)? {
+            return Ok(());
+        }
+        self.book.committed(key.id)
     }
 
     /// An executor declared a command.
-    fn hear(&mut self, from: Site, id: CommandId) -> Result<(), NoMemory>
+    fn hear(&mut self, from: ActorName, id: CommandId) -> Result<(), NoMemory>
+        requires executor { IsExecutor from }
         ensures identity { identity self.new ≡ identity self.old }
-        ensures state { OnOk result ((state : ExecutorState) → IsState self.old state → IsState self.new (on_stable self.old.site (ActorName.Executor from) id state).0) }
+        ensures state { OnOk result ((state : ExecutorState) → IsState self.old state → IsState self.new (on_stable self.old.site from id state).0) }
     {
-        if from.partition == self.site.partition {
-            return Ok(());
+        match from {
+            ActorName::Executor(from) if from.partition != self.site.partition => {
+                self.declared.heard(id, from.partition)
+            }
+            _ => Ok(()),
         }
-        self.declared.heard(id, from.partition)
+    }
+
+    /// Whether a message is to this executor, and from an actor of the store's shape.
+    fn is_mine(&self, message: &Message) -> bool
+        ensures { result ≡ (same_name message.now.to (ActorName.Executor self.now.site) && is_name_of self.now.topology message.now.from) }
+    {
+        message.to == ActorName::Executor(self.site) && is_name_of(&self.topology, message.from)
     }
 
     fn take(&mut self, message: &Message) -> Result<(), NoMemory>
+        requires { IsInRange message.now }
         ensures identity { identity self.new ≡ identity self.old }
-        ensures state { OnOk result ((state : ExecutorState) → IsState self.old state → IsInRange message.now → IsState self.new (on_message self.old.topology self.old.site message.now state).0) }
+        ensures state { OnOk result ((state : ExecutorState) → IsState self.old state → IsState self.new (on_message self.old.topology self.old.site message.now state).0) }
     {
-        let from = match message.from {
-            ActorName::Process(site) | ActorName::Executor(site) => site,
-            ActorName::Session(_) => return Ok(()),
-        };
-        if message.to != ActorName::Executor(self.site) || !is_site_of(&self.topology, from) {
+        if !self.is_mine(message) {
             return Ok(());
         }
         match &message.body {
-            Body::MPromises { lo, hi, pairs } => self.tell(from, *lo, *hi, pairs),
+            Body::MPromises { lo, hi, pairs } => self.tell(message.from, *lo, *hi, pairs),
             Body::MCommitted { command, stamp } => {
                 if is_command_at(&self.topology, self.site.partition, command) {
                     return self.commit(command, *stamp);
                 }
                 Ok(())
             }
-            Body::MStable { id } => self.hear(from, *id),
+            Body::MStable { id } => self.hear(message.from, *id),
             _ => Ok(()),
         }
     }
@@ -167,11 +222,11 @@ impl Executor {
         ensures outputs { IfOk result (λ outputs. (state : ExecutorState) → IsState self.old state → outputs ≡ (on_declare self.old.topology self.old.site state).1) }
         ensures state { OnOk result ((state : ExecutorState) → IsState self.old state → IsState self.new (on_declare self.old.topology self.old.site state).0) }
     {
-        let Some(next) = self.queue.least() else {
+        let Some((_, command)) = self.queue.head() else {
             return Ok(Sequence::new(self.alloc));
         };
-        let id = next.command.id;
-        let outputs = declarations(self.alloc, &self.topology, self.site, &next.command)?;
+        let id = command.id;
+        let outputs = declarations(self.alloc, &self.topology, self.site, command)?;
         self.declared.send(id)?;
         Ok(outputs)
     }
@@ -182,62 +237,26 @@ impl Executor {
         ensures outputs { IfOk result (λ outputs. (state : ExecutorState) → IsState self.old state → outputs ≡ (on_execute self.old.topology self.old.site state).1) }
         ensures state { OnOk result ((state : ExecutorState) → IsState self.old state → IsState self.new (on_execute self.old.topology self.old.site state).0) }
     {
-        let Some(next) = self.queue.least() else {
+        let Some((_, command)) = self.queue.pop() else {
             return Ok(Sequence::new(self.alloc));
         };
-        let command = &next.command;
-        let id = command.id;
         let partitions = self.topology.partitions();
-        let ops = command.ops.as_slice();
-        let answers = self
-            .store
-            .run(self.alloc, ops, partitions, self.site.partition)?;
-        let outputs = result_of(self.alloc, self.site, command, answers)?;
-        self.queue.remove(id);
-        Ok(outputs)
+        let ops = part(self.alloc, &command, partitions, self.site.partition)?;
+        let answers = self.store.apply(&ops)?;
+        result_of(self.alloc, self.site, command.id, answers)
     }
 
-    /// Whether a command is on several partitions, and isn't declared here.
-    fn is_undeclared(&self, next: &Committed) -> bool
-        ensures { (state : ExecutorState) → IsState self.now state → result ≡ is_undeclared state next.now.key.id (others_accessed self.now.topology next.now.command self.now.site.partition.0) }
+    /// Makes a step of its own.
+    fn make(&mut self, inner: Inner) -> Result<Outputs, NoMemory>
+        ensures identity { identity self.new ≡ identity self.old }
+        ensures outputs { IfOk result (λ outputs. (state : ExecutorState) → IsState self.old state → outputs ≡ (on_inner self.old.topology self.old.site inner state).1) }
+        ensures state { OnOk result ((state : ExecutorState) → IsState self.old state → IsState self.new (on_inner self.old.topology self.old.site inner state).0) }
     {
-        !is_alone(&self.topology, self.site.partition, &next.command)
-            && !self.declared.sent(next.key.id)
-    }
-
-    /// Whether a command is on this partition alone, or is declared here and by each other
-    /// partition.
-    fn is_ready(&self, next: &Committed) -> bool
-        ensures { (state : ExecutorState) → IsState self.now state → result ≡ is_ready state next.now.key.id (others_accessed self.now.topology next.now.command self.now.site.partition.0) }
-    {
-        let p = self.site.partition;
-        if is_alone(&self.topology, p, &next.command) {
-            return true;
+        match inner {
+            Inner::Declare(_) => self.declare(),
+            Inner::Execute(_) => self.execute(),
+            _ => Ok(Sequence::new(self.alloc)),
         }
-        let awaited = awaited(
-            &self.topology,
-            p,
-            &self.declared,
-            next.key.id,
-            &next.command,
-        );
-        self.declared.sent(next.key.id) && awaited.is_none()
-    }
-
-    /// The step that the executor may make where this command has the least key.
-    fn step_of(&self, next: &Committed) -> Option<Inner>
-        ensures { (state : ExecutorState) → IsState self.now state → result ≡ enabled_of self.now.topology self.now.site state (Some next.now) }
-    {
-        if !self.book.is_stable(&self.topology, next.key.stamp) {
-            return None;
-        }
-        if self.is_undeclared(next) {
-            return Some(Inner::Declare(next.key.id));
-        }
-        if self.is_ready(next) {
-            return Some(Inner::Execute(next.key.id));
-        }
-        None
     }
 }
 
@@ -266,22 +285,12 @@ impl Actor for Executor {
     }
 
     fn fire(&mut self, inner: Inner) -> Result<Outputs, NoMemory> {
-        match inner {
-            Inner::Declare(_) => {
-                let outputs = self.declare();
-                self.spent = outputs.is_err();
-                outputs
-            }
-            Inner::Execute(_) => {
-                let outputs = self.execute();
-                self.spent = outputs.is_err();
-                outputs
-            }
-            _ => Ok(Sequence::new(self.alloc)),
-        }
+        let outputs = self.make(inner);
+        self.spent = outputs.is_err();
+        outputs
     }
 
     fn next_inner(&self) -> Option<Inner> {
-        self.step_of(self.queue.least()?)
+        self.step()
     }
 }

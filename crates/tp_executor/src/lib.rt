@@ -2,15 +2,13 @@
 //! committed commands in the order of their keys, and sends the answers to the sessions.
 #![tactic(auto)]
 
-mod book;
+mod addressed;
 mod declaration;
 mod executor;
-mod front;
 mod others;
-mod queue;
-mod store;
-mod telling;
 #[cfg(test)]
 mod tests;
+mod why;
 
 pub use executor::Executor;
+pub use why::Why;

@@ -1,15 +1,13 @@
-ghost use Rattle.std.specs.Prelude.{◌≡◌, ◌≤◌, ◌∷◌, [], List, false, IfOk, OnOk};
-ghost use Rattle.tp_executor.specs.States.{Stands};
+ghost use Rattle.std.specs.Prelude.{◌≡◌, ◌≤◌, ◌<◌, ◌^◌, ◌∷◌, [], IfOk, OnOk};
+ghost use Rattle.tp_executor.specs.States.{IsUsable};
 ghost use Rattle.tp_ops.specs.Limits.{IsCommand};
-ghost use Rattle.tp_rules.specs.Acts.{Act};
 ghost use Rattle.tp_wire.specs.Ranges.{IsInRange};
 
-use crate::executor::Executor;
+use crate::{Executor, Why};
 use std::alloc::Global;
 use std::test::Fail;
 use tp_base::{
-    ActorName, Bytes, CommandId, NoMemory, Pair, PartitionId, Rank, Sequence, SessionId, Site,
-    Stamp,
+    ActorName, CommandId, NoMemory, PartitionId, Rank, Sequence, SessionId, Site, Stamp,
 };
 use tp_ops::{Answer, Command, Op};
 use tp_rules::{Actor, Inner, Outputs};
@@ -21,32 +19,30 @@ const ID: CommandId = CommandId {
     number: 1,
 };
 
-fn site(rank: u8) -> Site
-    ensures { result ≡ record { partition = record { 0 = 1 }; rank = record { 0 = rank } } }
+const fn site(partition: u8, rank: u8) -> Site
+    ensures { result ≡ record { partition = record { 0 = partition }; rank = record { 0 = rank } } }
 {
     Site {
-        partition: PartitionId(1),
+        partition: PartitionId(partition),
         rank: Rank(rank),
     }
 }
 
-fn bytes(alloc: Global, byte: u8) -> Result<Bytes, NoMemory>
-    ensures { IfOk result (λ bytes. bytes ≡ byte ∷ []) }
+/// Reads a key of one byte.
+fn get(alloc: Global, byte: u8) -> Result<Op, NoMemory>
+    ensures { IfOk result (λ op. op ≡ Op.Get (byte ∷ [])) }
 {
-    let mut bytes = Sequence::new(alloc);
-    bytes.add(byte)?;
-    Ok(bytes)
+    let mut key = Sequence::new(alloc);
+    key.add(byte)?;
+    Ok(Op::Get { key })
 }
 
 /// On the first of two partitions.
-fn command(alloc: Global) -> Result<Command, NoMemory>
-    ensures { IfOk result (λ command. IsCommand command) }
+fn on_one(alloc: Global) -> Result<Command, NoMemory>
+    ensures { IfOk result IsCommand }
 {
     let mut ops = Sequence::new(alloc);
-    ops.add(Op::Put {
-        key: bytes(alloc, 0x61)?,
-        value: bytes(alloc, 0x31)?,
-    })?;
+    ops.add(get(alloc, b'b')?)?;
     Ok(Command {
         id: ID,
         home: Rank(1),
@@ -55,17 +51,12 @@ fn command(alloc: Global) -> Result<Command, NoMemory>
 }
 
 /// On both of two partitions.
-fn command_on_both(alloc: Global) -> Result<Command, NoMemory>
-    ensures { IfOk result (λ command. IsCommand command) }
+fn on_both(alloc: Global) -> Result<Command, NoMemory>
+    ensures { IfOk result IsCommand }
 {
     let mut ops = Sequence::new(alloc);
-    ops.add(Op::Put {
-        key: bytes(alloc, 0x62)?,
-        value: bytes(alloc, 0x31)?,
-    })?;
-    ops.add(Op::Get {
-        key: bytes(alloc, 0x61)?,
-    })?;
+    ops.add(get(alloc, b'a')?)?;
+    ops.add(get(alloc, b'b')?)?;
     Ok(Command {
         id: ID,
         home: Rank(1),
@@ -73,100 +64,72 @@ fn command_on_both(alloc: Global) -> Result<Command, NoMemory>
     })
 }
 
-/// A command is committed at stamp 1.
-fn committed(command: Command) -> Message
-    requires { IsCommand command }
-    ensures { IsInRange result }
+fn takes(executor: &mut Executor, from: ActorName, body: Body) -> Result<(), NoMemory>
+    requires usable { IsUsable executor.old }
+    requires range { IsInRange (record { from = from; to = ActorName.Executor (record { partition = record { 0 = 1 }; rank = record { 0 = 1 } }); body = body }) }
+    ensures { OnOk result (IsUsable executor.new) }
 {
-    Message {
-        from: ActorName::Process(site(1)),
-        to: ActorName::Executor(site(1)),
-        body: Body::MCommitted {
-            command,
-            stamp: Stamp(1),
-        },
-    }
-}
-
-/// The command on one partition is committed at stamp 1.
-fn committed_on_one(alloc: Global) -> Result<Message, NoMemory>
-    ensures { IfOk result IsInRange }
-{
-    Ok(committed(command(alloc)?))
-}
-
-/// The command on both partitions is committed at stamp 1.
-fn committed_on_both(alloc: Global) -> Result<Message, NoMemory>
-    ensures { IfOk result IsInRange }
-{
-    Ok(committed(command_on_both(alloc)?))
-}
-
-/// An executor of a partition declared the command.
-fn stable(partition: u8, rank: u8) -> Message
-    requires partition { (1 ≤ partition) × (partition ≤ 4) }
-    requires rank { (1 ≤ rank) × (rank ≤ 7) }
-    ensures { IsInRange result }
-{
-    Message {
-        from: ActorName::Executor(Site {
-            partition: PartitionId(partition),
-            rank: Rank(rank),
-        }),
-        to: ActorName::Executor(site(1)),
-        body: Body::MStable { id: ID },
-    }
-}
-
-/// A rank's promise of stamp 1 to the command.
-fn promised(alloc: Global, rank: u8) -> Result<Message, NoMemory>
-    requires some { 1 ≤ rank }
-    requires few { rank ≤ 7 }
-    ensures { IfOk result IsInRange }
-{
-    let mut pairs = Sequence::new(alloc);
-    pairs.add(Pair {
-        id: ID,
-        stamp: Stamp(1),
-    })?;
-    Ok(Message {
-        from: ActorName::Process(site(rank)),
-        to: ActorName::Executor(site(1)),
-        body: Body::MPromises {
-            lo: 0,
-            hi: 1,
-            pairs,
-        },
-    })
-}
-
-/// An executor of the first partition, of so many with three replicas.
-fn executor(alloc: Global, partitions: u8) -> Result<Executor, Fail>
-    ensures unspent { IfOk result (λ executor. executor.spent ≡ false) }
-    ensures stands { IfOk result (λ executor. (acts : List Act) × Stands executor acts) }
-{
-    let topology = Topology::new(partitions, 3, 1)?;
-    let executor = Executor::new(alloc, &topology, site(1))?;
-    Ok(executor)
-}
-
-fn takes(executor: &mut Executor, message: &Message) -> Result<(), NoMemory>
-    requires unspent { executor.old.spent ≡ false }
-    requires stands { (acts : List Act) × Stands executor.old acts }
-    requires range { IsInRange message.now }
-    ensures unspent { OnOk result (executor.new.spent ≡ false) }
-    ensures stands { OnOk result ((acts : List Act) × Stands executor.new acts) }
-{
-    executor.deliver(message)?;
+    let message = Message {
+        from,
+        to: ActorName::Executor(site(1, 1)),
+        body,
+    };
+    executor.deliver(&message)?;
     Ok(())
 }
 
+/// A command is committed at a stamp.
+fn commits(executor: &mut Executor, command: Command, stamp: u64) -> Result<(), NoMemory>
+    requires usable { IsUsable executor.old }
+    requires command { IsCommand command }
+    requires stamp { (1 ≤ stamp) × (stamp < 2 ^ 48) }
+    ensures { OnOk result (IsUsable executor.new) }
+{
+    takes(
+        executor,
+        ActorName::Process(site(1, 1)),
+        Body::MCommitted {
+            command,
+            stamp: Stamp(stamp),
+        },
+    )
+}
+
+/// A rank tells that its promises up to a number are detached.
+fn tells(executor: &mut Executor, alloc: Global, rank: u8, hi: u64) -> Result<(), NoMemory>
+    requires usable { IsUsable executor.old }
+    requires rank { (1 ≤ rank) × (rank ≤ 7) }
+    requires hi { (1 ≤ hi) × (hi < 2 ^ 48) }
+    ensures { OnOk result (IsUsable executor.new) }
+{
+    takes(
+        executor,
+        ActorName::Process(site(1, rank)),
+        Body::MPromises {
+            lo: 0,
+            hi,
+            pairs: Sequence::new(alloc),
+        },
+    )
+}
+
+/// The second executor of a partition declared the command.
+fn hears(executor: &mut Executor, partition: u8) -> Result<(), NoMemory>
+    requires usable { IsUsable executor.old }
+    requires partition { (1 ≤ partition) × (partition ≤ 4) }
+    ensures { OnOk result (IsUsable executor.new) }
+{
+    takes(
+        executor,
+        ActorName::Executor(site(partition, 2)),
+        Body::MStable { id: ID },
+    )
+}
+
 /// Makes the step that the executor may make, and gives what it sends.
-fn fired(executor: &mut Executor, alloc: Global) -> Result<Outputs, NoMemory>
-    requires unspent { executor.old.spent ≡ false }
-    requires stands { (acts : List Act) × Stands executor.old acts }
-    ensures unspent { OnOk result (executor.new.spent ≡ false) }
-    ensures stands { OnOk result ((acts : List Act) × Stands executor.new acts) }
+fn fires(executor: &mut Executor, alloc: Global) -> Result<Outputs, NoMemory>
+    requires { IsUsable executor.old }
+    ensures { OnOk result (IsUsable executor.new) }
 {
     match executor.next_inner() {
         Some(Inner::Declare(id)) => executor.fire(Inner::Declare(id)),
@@ -186,11 +149,7 @@ fn are_declarations(outputs: &Outputs) -> bool {
 }
 
 fn is_declaration(message: &Message, rank: u8) -> bool {
-    let to = Site {
-        partition: PartitionId(2),
-        rank: Rank(rank),
-    };
-    message.to == ActorName::Executor(to)
+    message.to == ActorName::Executor(site(2, rank))
         && matches!(&message.body, Body::MStable { id } if *id == ID)
 }
 
@@ -217,111 +176,96 @@ fn is_result(body: &Body) -> bool {
     }
 }
 
-/// An executor of one partition, at which a command is stable.
-fn with_a_command(alloc: Global) -> Result<Executor, Fail>
-    ensures unspent { IfOk result (λ executor. executor.spent ≡ false) }
-    ensures stands { IfOk result (λ executor. (acts : List Act) × Stands executor acts) }
+/// Three of four replicas told of their promises.
+fn is_not_above_the_threshold(executor: &mut Executor, alloc: Global) -> Result<bool, NoMemory>
+    requires { IsUsable executor.old }
 {
-    let mut executor = executor(alloc, 1)?;
-    takes(&mut executor, &promised(alloc, 1)?)?;
-    takes(&mut executor, &committed_on_one(alloc)?)?;
-    takes(&mut executor, &promised(alloc, 2)?)?;
-    Ok(executor)
+    commits(executor, on_one(alloc)?, 7)?;
+    tells(executor, alloc, 1, 7)?;
+    tells(executor, alloc, 2, 7)?;
+    tells(executor, alloc, 3, 5)?;
+    let why = Why::NotStable {
+        stamp: Stamp(7),
+        threshold: 5,
+    };
+    Ok(executor.may_execute() == Err(why))
 }
 
-/// The same, and it has executed the command.
-fn that_executed(alloc: Global) -> Result<Executor, Fail>
-    ensures unspent { IfOk result (λ executor. executor.spent ≡ false) }
-    ensures stands { IfOk result (λ executor. (acts : List Act) × Stands executor acts) }
+/// Two of three replicas told of their first promise.
+fn two_tell(executor: &mut Executor, alloc: Global) -> Result<(), NoMemory>
+    requires { IsUsable executor.old }
+    ensures { OnOk result (IsUsable executor.new) }
 {
-    let mut executor = with_a_command(alloc)?;
-    fired(&mut executor, alloc)?;
-    Ok(executor)
+    tells(executor, alloc, 1, 1)?;
+    tells(executor, alloc, 3, 1)
+}
+
+/// The command is stable, executed, and committed again.
+fn is_executed_once(executor: &mut Executor, alloc: Global) -> Result<bool, NoMemory>
+    requires { IsUsable executor.old }
+{
+    two_tell(executor, alloc)?;
+    commits(executor, on_one(alloc)?, 1)?;
+    let ready = executor.may_execute() == Ok(ID);
+    let answered = is_one_result(&fires(executor, alloc)?);
+    commits(executor, on_one(alloc)?, 1)?;
+    let over = executor.may_execute() == Err(Why::Nothing);
+    Ok(ready && answered && over)
+}
+
+/// The command on both partitions is stable and declared.
+fn is_declared(executor: &mut Executor, alloc: Global) -> Result<bool, NoMemory>
+    requires { IsUsable executor.old }
+    ensures { OnOk result (IsUsable executor.new) }
+{
+    two_tell(executor, alloc)?;
+    commits(executor, on_both(alloc)?, 1)?;
+    let undeclared = executor.may_execute() == Err(Why::NotDeclared);
+    let told = are_declarations(&fires(executor, alloc)?);
+    Ok(undeclared && told)
+}
+
+/// Its own partition declares the command, and then the other one.
+fn waits_for_the_other(executor: &mut Executor) -> Result<bool, NoMemory>
+    requires { IsUsable executor.old }
+{
+    hears(executor, 1)?;
+    let waits = executor.may_execute() == Err(Why::Waits(PartitionId(2)));
+    hears(executor, 2)?;
+    let ready = executor.may_execute() == Ok(ID);
+    Ok(waits && ready)
 }
 
 #[test]
-fn one_rank_is_no_majority(rt: HostRuntime) -> Result<(), Fail> {
-    let alloc = rt.alloc();
-    let mut executor = executor(alloc, 1)?;
-    takes(&mut executor, &promised(alloc, 1)?)?;
-    takes(&mut executor, &committed_on_one(alloc)?)?;
-    assert_eq!(rt; executor.next_inner(), None);
+fn nothing_at_first(rt: HostRuntime) -> Result<(), Fail> {
+    let topology = Topology::new(1, 3, 1)?;
+    let executor = Executor::new(rt.alloc(), &topology, site(1, 1))?;
+    assert!(rt; executor.may_execute() == Err(Why::Nothing));
+    assert!(rt; executor.name() == ActorName::Executor(site(1, 1)));
     Ok(())
 }
 
 #[test]
-fn executed_once_it_is_stable(rt: HostRuntime) -> Result<(), Fail> {
-    let alloc = rt.alloc();
-    let mut executor = with_a_command(alloc)?;
-    assert_eq!(rt; executor.next_inner(), Some(Inner::Execute(ID)));
-    assert!(rt; is_one_result(&fired(&mut executor, alloc)?));
+fn not_above_the_threshold(rt: HostRuntime) -> Result<(), Fail> {
+    let topology = Topology::new(1, 4, 1)?;
+    let mut executor = Executor::new(rt.alloc(), &topology, site(1, 1))?;
+    assert!(rt; is_not_above_the_threshold(&mut executor, rt.alloc())?);
     Ok(())
 }
 
 #[test]
 fn executed_once(rt: HostRuntime) -> Result<(), Fail> {
-    let alloc = rt.alloc();
-    let mut executor = that_executed(alloc)?;
-    takes(&mut executor, &committed_on_one(alloc)?)?;
-    assert_eq!(rt; executor.next_inner(), None);
-    assert!(rt; !executor.spent());
-    Ok(())
-}
-
-/// An executor of the first of two partitions, at which a command on both is stable.
-fn with_a_stable_command(alloc: Global) -> Result<Executor, Fail>
-    ensures unspent { IfOk result (λ executor. executor.spent ≡ false) }
-    ensures stands { IfOk result (λ executor. (acts : List Act) × Stands executor acts) }
-{
-    let mut executor = executor(alloc, 2)?;
-    takes(&mut executor, &committed_on_both(alloc)?)?;
-    takes(&mut executor, &promised(alloc, 1)?)?;
-    takes(&mut executor, &promised(alloc, 3)?)?;
-    Ok(executor)
-}
-
-/// The same, and it has declared the command.
-fn that_declared(alloc: Global) -> Result<Executor, Fail>
-    ensures unspent { IfOk result (λ executor. executor.spent ≡ false) }
-    ensures stands { IfOk result (λ executor. (acts : List Act) × Stands executor acts) }
-{
-    let mut executor = with_a_stable_command(alloc)?;
-    fired(&mut executor, alloc)?;
-    Ok(executor)
-}
-
-#[test]
-fn declared_once_it_is_stable(rt: HostRuntime) -> Result<(), Fail> {
-    let alloc = rt.alloc();
-    let mut executor = with_a_stable_command(alloc)?;
-    assert_eq!(rt; executor.next_inner(), Some(Inner::Declare(ID)));
-    assert!(rt; are_declarations(&fired(&mut executor, alloc)?));
-    assert_eq!(rt; executor.next_inner(), None);
+    let topology = Topology::new(2, 3, 1)?;
+    let mut executor = Executor::new(rt.alloc(), &topology, site(1, 1))?;
+    assert!(rt; is_executed_once(&mut executor, rt.alloc())?);
     Ok(())
 }
 
 #[test]
-fn its_own_partition_says_nothing(rt: HostRuntime) -> Result<(), Fail> {
-    let mut executor = that_declared(rt.alloc())?;
-    takes(&mut executor, &stable(1, 2))?;
-    assert_eq!(rt; executor.next_inner(), None);
-    Ok(())
-}
-
-#[test]
-fn executed_once_the_other_partition_is_heard(rt: HostRuntime) -> Result<(), Fail> {
-    let alloc = rt.alloc();
-    let mut executor = that_declared(alloc)?;
-    takes(&mut executor, &stable(2, 3))?;
-    assert_eq!(rt; executor.next_inner(), Some(Inner::Execute(ID)));
-    assert!(rt; is_one_result(&fired(&mut executor, alloc)?));
-    Ok(())
-}
-
-#[test]
-fn nothing_is_executed_that_was_heard_alone(rt: HostRuntime) -> Result<(), Fail> {
-    let mut executor = executor(rt.alloc(), 2)?;
-    takes(&mut executor, &stable(2, 1))?;
-    assert_eq!(rt; executor.next_inner(), None);
+fn declared_and_waiting_for_the_other_partition(rt: HostRuntime) -> Result<(), Fail> {
+    let topology = Topology::new(2, 3, 1)?;
+    let mut executor = Executor::new(rt.alloc(), &topology, site(1, 1))?;
+    assert!(rt; is_declared(&mut executor, rt.alloc())?);
+    assert!(rt; waits_for_the_other(&mut executor)?);
     Ok(())
 }

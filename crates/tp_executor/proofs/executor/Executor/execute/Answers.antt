@@ -1,22 +1,34 @@
-use Rattle.std.proofs.Common.{ℕ, List, Some, refl, sym, ap, ◌∙◌}
-use Rattle.std.specs.Option.{option_copied}
+use Rattle.std.proofs.Common.{ℕ, List, refl, sym, ap, ◌∙◌}
 use Rattle.tp_ops.specs.declared.operation.Op.{Op}
 use Rattle.tp_ops.specs.Parts.{ops_on}
-use Rattle.tp_ops.specs.Store.{after_all}
-use Rattle.tp_rules.specs.Executor.{Committed}
-use Rattle.tp_executor.specs.Bindings.{value_of}
-use Rattle.tp_executor.proofs.Steps.{executes}
+use Rattle.tp_ops.specs.Store.{after_all, answers_of}
+use Rattle.tp_rules.specs.Executor.{Committed, Moved}
+use Rattle.tp_store.specs.Values.{contents_of}
+use Rattle.tp_executor.proofs.Steps.{always, executes, executes_none, executes_sends, if_ok, takes_none}
 use Rattle.tp_executor.proofs.executor.Executor.execute.Goals as goal
+
+pub returns-in_default-clause-outputs : goal.returns-in_default-clause-outputs
+returns-in_default-clause-outputs c = λ state st.
+    c.new.ensures ∙ ap (λ (m : Moved). m.1) (sym (executes_none c.args.self.now state c.in_default.ensures.least st))
+
+pub returns-in_default-clause-state : goal.returns-in_default-clause-state
+returns-in_default-clause-state c = takes_none c.args.self.now _ c.in_default.ensures.least c.in_default.ensures.taken refl refl refl
+
+pub returns-clause-outputs : goal.returns-clause-outputs
+returns-clause-outputs c =
+    let e = c.args.self.now in
+    let m : Committed = record { key = c.in-Some.field-0-0; command = c.in-Some.command } in
+    let ops = c.in_ok-ops.ensures ∙ ap (λ (n : ℕ). ops_on n e.site.partition.0 c.in-Some.command.ops) c.partitions-partitions.ensures.value in
+    if_ok c.result_of.result _ _
+    (λ outputs sent. executes_sends e m c.in_ok-answers.answers outputs c.in-Some.ensures.least
+    (c.in_ok-answers.ensures.answers ∙ ap (λ (o : List Op). answers_of o (contents_of e.store)) ops) sent)
+    c.result_of.ensures
 
 pub returns-clause-state : goal.returns-clause-state
 returns-clause-state c =
-    let site = c.args.self.now.site in
-    let store = value_of c.args.self.now.store in
-    executes c.args.self.now _ (record { key = c.next.inside.key; command = c.next.inside.command })
-    (sym c.least.ensures ∙ ap option_copied c.in-Some.is ∙ ap (λ (d : Committed). Some d) (sym c.next.view_is))
-    refl
-    c.remove.ensures
-    (c.in_ok-answers.ensures.contents
-    ∙ ap (λ (m : ℕ). after_all (ops_on m site.partition.0 c.as_slice-ops.result.now) store) c.partitions-partitions.ensures.value
-    ∙ ap (λ (ops : List Op). after_all (ops_on c.args.self.now.topology.partitions site.partition.0 ops) store) c.as_slice-ops.ensures)
-    refl
+    let e = c.args.self.now in
+    let m : Committed = record { key = c.in-Some.field-0-0; command = c.in-Some.command } in
+    let ops = c.in_ok-ops.ensures ∙ ap (λ (n : ℕ). ops_on n e.site.partition.0 c.in-Some.command.ops) c.partitions-partitions.ensures.value in
+    always c.result_of.result
+    (executes e _ m c.in-Some.ensures.least c.in-Some.ensures.taken refl refl
+    (c.in_ok-answers.ensures.contents ∙ ap (λ (o : List Op). after_all o (contents_of e.store)) ops))
