@@ -1,10 +1,10 @@
 -- Where no plan line loses or repeats messages, each message is delivered once.
-use Rattle.std.proofs.Common.{◌≡◌, ℕ, ◌-◌, Bool, true, false, List, [], ◌∷◌, Some, refl, sym, ap, subst, ◌∙◌, arith}
+use Rattle.std.proofs.Common.{◌≡◌, ℕ, ◌-◌, false, List, [], ◌∷◌, refl, ap}
 use Rattle.std.specs.List.{list_any}
-use Rattle.std.specs.Prelude.{cond, filter_map}
+use Rattle.std.specs.Prelude.{filter_map}
 use Rattle.tp_base.specs.declared.names.ActorName.{ActorName}
 use Rattle.tp_netbook.specs.Served.{is_of_messages}
-use Rattle.tp_rules.specs.Plan.{Fate, Lost, Times, deliveries, deliveries_left, fate_by, fate_of, first_or, is_lost_by, left_by, ordinal_of, repeated_by, times_for_all, was_lost}
+use Rattle.tp_rules.specs.Plan.{Fate, Times, deliveries, deliveries_left, fate_by, fate_of, is_lost_by, left_by, ordinal_of, repeated_by, times_for_all, was_lost}
 use Rattle.tp_rules.specs.declared.event.Entry.{Entry}
 use Rattle.tp_rules.specs.declared.event.Parcel.{Parcel}
 use Rattle.tp_script.specs.declared.script.PlanLine.{PlanLine}

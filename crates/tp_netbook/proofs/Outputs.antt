@@ -1,17 +1,14 @@
 -- The outputs that may still be delivered, after one more entry.
-use Rattle.std.proofs.Common.{◌≡◌, ℕ, zero, suc, ◌+◌, ◌-◌, ◌<◌, ◌≤◌, inl, inr, Bool, true, false, List, [], ◌∷◌, ◌++◌, length, map, Option, Some, None, refl, sym, ap, subst, ◌∙◌, arith}
-use Rattle.std.specs.Prelude.{not, nat_lt, ◌==◌, ◌&&◌, ◌||◌, filter}
+use Rattle.std.proofs.Common.{◌≡◌, ℕ, suc, ◌-◌, ◌<◌, ◌≤◌, inl, inr, Bool, true, false, List, [], ◌∷◌, ◌++◌, length, map, Option, Some, None, refl, sym, ap, ◌∙◌, arith}
+use Rattle.std.specs.Prelude.{not, nat_lt, ◌&&◌, ◌||◌, filter}
 use Rattle.std.proofs.lemmas.Bool.{and_left, cases_Bool, lt-ltb, ne_eqb}
 use Rattle.std.proofs.lemmas.List.Elements.{filter-append}
-use Rattle.tp_base.proofs.Each.{each_in}
-use Rattle.tp_base.proofs.Members.{in_left, in_right}
-use Rattle.tp_base.specs.Lists.{Each, IsIn}
+use Rattle.tp_base.specs.Lists.{IsIn}
 use Rattle.tp_base.specs.declared.names.ActorName.{ActorName}
 use Rattle.tp_base.specs.declared.names.ActorName.TheVariants.{Process, Executor, Session}
 use Rattle.tp_netbook.proofs.Fates.{left_once}
 use Rattle.tp_netbook.specs.Netbook.{crashes, is_settled, output_of, outputs_left}
 use Rattle.tp_netbook.specs.Served.{IsServed}
-use Rattle.tp_netbook.specs.declared.output.Output.{Output}
 use Rattle.tp_rules.proofs.Parcels.{numbered_parts, output_sent, parcel, sent_within}
 use Rattle.tp_rules.proofs.Tallies.{count_no, count_yes, filter_no, filter_yes}
 use Rattle.tp_rules.specs.Journal.{has_crashed, is_delivery_of, is_live, numbered, output_at, sent}

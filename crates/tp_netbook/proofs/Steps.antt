@@ -1,5 +1,5 @@
 -- What a netbook says may come next is what may come next.
-use Rattle.std.proofs.Common.{◌≡◌, ℕ, zero, suc, ◌+◌, ◌-◌, ◌<◌, ◌≤◌, ◌^◌, inl, inr, Bool, true, false, cond, List, [], ◌∷◌, ◌++◌, length, map, Option, Some, None, refl, sym, ap, subst, ◌∙◌, append_assoc, arith}
+use Rattle.std.proofs.Common.{◌≡◌, ℕ, zero, suc, ◌+◌, ◌-◌, ◌<◌, ◌≤◌, ◌^◌, inl, inr, Bool, true, false, cond, List, [], ◌∷◌, ◌++◌, length, map, Option, Some, None, refl, sym, ap, subst, ◌∙◌, arith}
 use Rattle.std.proofs.lemmas.Bool.{and_parts, cases_Bool}
 use Rattle.std.proofs.lemmas.List.{length-append, length-reverse, map-append}
 use Rattle.std.proofs.lemmas.Option.{slice_get_within}
@@ -9,7 +9,7 @@ use Rattle.std.specs.Prelude.{not, min, nat_lt, is_none, ◌&&◌, filter, filte
 use Rattle.tp_base.proofs.Each.{each_in}
 use Rattle.tp_base.proofs.Ends.{reverse_push, slice_get_left, slice_get_right}
 use Rattle.tp_base.proofs.Members.{get_in, in_right}
-use Rattle.tp_base.specs.Lists.{Each, IsIn}
+use Rattle.tp_base.specs.Lists.{IsIn}
 use Rattle.tp_base.specs.declared.names.ActorName.{ActorName}
 use Rattle.tp_netbook.proofs.Fates.{fate_once}
 use Rattle.tp_netbook.proofs.Outputs.{filter_like, map_filter, outputs_more}
@@ -22,10 +22,10 @@ use Rattle.tp_netbook.specs.declared.netbook.Netbook.{Netbook}
 use Rattle.tp_netbook.specs.declared.output.Output.{Output}
 use Rattle.tp_rules.proofs.Histories.{free_history}
 use Rattle.tp_rules.proofs.InRange.{sent_known}
-use Rattle.tp_rules.proofs.Tallies.{filter_in, filter_no, filter_yes}
+use Rattle.tp_rules.proofs.Tallies.{filter_no, filter_yes}
 use Rattle.tp_rules.specs.Journal.{acts, identity_in, is_known, is_live, numbered, sent}
 use Rattle.tp_rules.specs.Pending.{actors_of, due_item, inner_item, is_waiting, item, own_item, parcel_item, pending, sites_of}
-use Rattle.tp_rules.specs.Plan.{Fate, Times, deliveries_left, due_of, fate_of}
+use Rattle.tp_rules.specs.Plan.{Times, deliveries_left, due_of, fate_of}
 use Rattle.tp_rules.specs.Rules.{enabled}
 use Rattle.tp_rules.specs.Runs.{IsFreeHistory, IsHistory, IsRun}
 use Rattle.tp_rules.specs.declared.event.Entry.{Entry}
@@ -34,7 +34,6 @@ use Rattle.tp_rules.specs.declared.event.Inner.{Inner}
 use Rattle.tp_rules.specs.declared.event.Item.{Item}
 use Rattle.tp_rules.specs.declared.event.Parcel.{Parcel}
 use Rattle.tp_script.specs.declared.script.Script.{Script}
-use Rattle.tp_wire.specs.declared.message.Message.{Message}
 
 kept_fewer : {X Y : Type 0} (f : X → Option Y) (xs : List X) → length (filter_map f xs) ≤ length xs
 kept_fewer f [] = omega arith

@@ -1,5 +1,5 @@
 -- What a netbook keeps of a journal, and which steps it says may come next.
-use Rattle.std.specs.Prelude.{ℕ, ◌≡◌, ◌≢◌, ◌+◌, ◌^◌, ◌<◌, ◌++◌, ◌&&◌, ◌||◌, not, nat_le, nat_lt, is_none, Bool, true, false, cond, List, [], ◌∷◌, Option, Some, None, filter, filter_map, length, map, reverse, slice_get}
+use Rattle.std.specs.Prelude.{ℕ, ◌≡◌, ◌≢◌, ◌+◌, ◌^◌, ◌<◌, ◌&&◌, ◌||◌, not, nat_le, nat_lt, is_none, Bool, true, false, cond, List, Option, Some, None, filter, filter_map, length, map, reverse, slice_get}
 use Rattle.std.specs.List.{zip}
 use Rattle.tp_base.specs.declared.names.ActorName.{ActorName}
 use Rattle.tp_base.specs.declared.names.ActorName.TheVariants.{Process, Executor, Session}

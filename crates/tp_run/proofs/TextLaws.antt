@@ -1,6 +1,7 @@
 -- A whole text and its script: each is the other's.
-use Rattle.std.proofs.Common.{◌≡◌, ℕ, ◌+◌, ◌≤◌, ◌<◌, nat_le, nat_lt, take, min, Bool, true, false, List, [], ◌∷◌, ◌++◌, Option, Some, None, Result, Ok, Err, ◌⊎◌, inl, inr, refl, sym, subst, ◌∙◌, ap, arith, length, append-nil}
+use Rattle.std.proofs.Common.{◌≡◌, ℕ, ◌+◌, ◌≤◌, ◌<◌, nat_le, nat_lt, take, min, Bool, true, false, List, [], ◌∷◌, ◌++◌, Option, Some, None, Result, Ok, Err, ◌⊎◌, inl, inr, refl, sym, subst, ◌∙◌, ap, arith, length, append-nil, not}
 use Rattle.std.proofs.lemmas.List.{length-take, take_all}
+use Rattle.std.specs.List.{list_any}
 use Rattle.tp_netbook.specs.Served.{IsServed, is_of_messages}
 use Rattle.tp_run.specs.declared.finished.Cause.{Cause}
 use Rattle.tp_run.specs.declared.finished.Cause.TheVariants.{Script as Faulty, Input, Unbuilt}

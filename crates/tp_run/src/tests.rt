@@ -237,6 +237,23 @@ fn faulty_texts_are_refused(rt: HostRuntime) -> Result<(), Fail> {
 }
 
 #[test]
+fn the_home_recovers_its_command(rt: HostRuntime) -> Result<(), Fail> {
+    let lines = b"command 1 put 61 31\nrecover 1.1 1.1 after 1\nend\n";
+    assert!(rt; answers(rt.alloc(), lines, 41, REPORT)?);
+    Ok(())
+}
+
+#[test]
+fn every_site_crashes(rt: HostRuntime) -> Result<(), Fail> {
+    let lines =
+        b"command 1 put 61 31\ncrash 1.1 after 0\ncrash 1.2 after 0\ncrash 1.3 after 0\nend\n";
+    let report =
+        b"report 1\norder 1.1 crashed\norder 1.2 crashed\norder 1.3 crashed\nline\nopen 1\nend\n";
+    assert!(rt; answers(rt.alloc(), lines, 4, report)?);
+    Ok(())
+}
+
+#[test]
 fn what_is_not_served_is_unbuilt(rt: HostRuntime) -> Result<(), Fail> {
     let texts: [&[u8]; 2] = [
         b"tempo 1\nshape 1 3 1\ndrop p1.1 p1.2 1\nend\n",

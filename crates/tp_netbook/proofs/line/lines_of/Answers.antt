@@ -1,4 +1,4 @@
-use Rattle.std.proofs.Common.{◌≡◌, ◌-◌, ℕ, length, ap, ◌∙◌, arith}
+use Rattle.std.proofs.Common.{◌≡◌, ◌-◌, length, ap, ◌∙◌, arith}
 use Rattle.tp_netbook.proofs.Parts.{lines_from}
 use Rattle.tp_netbook.proofs.line.lines_of.Goals as goal
 use Rattle.tp_rules.specs.Plan.{plan_of}

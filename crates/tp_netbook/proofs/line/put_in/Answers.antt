@@ -1,4 +1,4 @@
-use Rattle.std.proofs.Common.{◌≡◌, ℕ, List, map, Option, sym, ap, ◌∙◌, arith}
+use Rattle.std.proofs.Common.{◌≡◌, ℕ, List, map, sym, ap, ◌∙◌, arith}
 use Rattle.std.specs.List.{insert, position}
 use Rattle.tp_netbook.proofs.Parts.{is_later, put_before, put_last}
 use Rattle.tp_netbook.proofs.line.put_in.Goals as goal

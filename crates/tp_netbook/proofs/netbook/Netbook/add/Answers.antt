@@ -1,6 +1,4 @@
-use Rattle.std.proofs.Common.{◌≡◌, ◌++◌, ◌∷◌, ◌+◌, [], Bool, true, false, List, take, get_or, sym, ap, subst, ◌∙◌, append_assoc, arith}
-use Rattle.std.proofs.lemmas.Option.{slice_get-get_or}
-use Rattle.std.specs.Prelude.{Some, slice_get}
+use Rattle.std.proofs.Common.{◌≡◌, ◌++◌, ◌∷◌, ◌+◌, [], List, take, sym, ap, ◌∙◌, append_assoc}
 use Rattle.tp_netbook.proofs.Counting.{alive_alike, item_there, none_added, one_added}
 use Rattle.tp_netbook.specs.Netbook.{is_alive, new_outputs}
 use Rattle.tp_netbook.specs.declared.netbook.Netbook.{Netbook}

@@ -1,7 +1,7 @@
-use Rattle.std.proofs.Common.{◌≡◌, Some, set, sym, ap, subst, ◌∙◌, refl, arith}
+use Rattle.std.proofs.Common.{Some, set, sym, ap, subst, ◌∙◌, refl, arith}
 use Rattle.std.proofs.lemmas.Option.{slice_get-get_or}
 use Rattle.tp_netbook.proofs.Counting.{counted_at, counted_none, counted_out}
-use Rattle.tp_netbook.specs.Netbook.{AreCounted, IsCounted}
+use Rattle.tp_netbook.specs.Netbook.{AreCounted}
 use Rattle.tp_netbook.specs.declared.watch.Watch.{Watch}
 use Rattle.tp_netbook.proofs.netbook.Netbook.count.Goals as goal
 

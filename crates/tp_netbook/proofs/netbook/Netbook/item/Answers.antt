@@ -1,4 +1,4 @@
-use Rattle.std.proofs.Common.{◌≡◌, ◌≤◌, ◌-◌, ℕ, length, sym, ap, subst, ◌∙◌}
+use Rattle.std.proofs.Common.{◌≤◌, ◌-◌, ℕ, length, sym, ap, ◌∙◌}
 use Rattle.tp_netbook.proofs.Steps.{beyond, delivery_step, line_step, own_step}
 use Rattle.tp_netbook.specs.Netbook.{deliveries, lines}
 use Rattle.tp_netbook.proofs.netbook.Netbook.item.Goals as goal

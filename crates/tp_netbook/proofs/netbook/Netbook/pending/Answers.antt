@@ -1,4 +1,3 @@
-use Rattle.std.proofs.Common.{sym, ap, subst, ◌∙◌}
 use Rattle.tp_netbook.proofs.Steps.{all_counted}
 use Rattle.tp_netbook.proofs.netbook.Netbook.pending.Goals as goal
 
