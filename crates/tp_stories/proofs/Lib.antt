@@ -1,0 +1,4 @@
+mod Words
+mod AskedAgain
+mod OtherCommands
+mod AllCrashed
