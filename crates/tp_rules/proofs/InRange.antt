@@ -25,7 +25,7 @@ use Rattle.tp_script.specs.declared.script.Script.{Script}
 use Rattle.tp_wire.specs.Ranges.{IsInRange}
 
 module _ (script : Script) (accepted : IsAccepted script) where
-  fit_handed_on : HandsOn script (IsFit script)
+  pub fit_handed_on : HandsOn script (IsFit script)
   fit_handed_on (Process me) before act known took takes =
       let setting : Setting = ring_setting script.topology in
       (process_fit script accepted setting.in_quorum me known act (process.state_after setting me before) takes

@@ -1,6 +1,6 @@
 mod FiveReplicas
 mod KeptCommand
-mod OnePut
+pub mod OnePut
 mod OnePutAccepted
 mod OnePutIllegal
 mod OnePutLegal
@@ -13,7 +13,7 @@ mod Recoveries
 mod RefusalsOfExecutor
 mod RefusalsOfProcess
 mod RefusalsOfSession
-mod RunWords
+pub mod RunWords
 mod SameSheet
 mod TwoPartitions
 pub mod ActsMore
@@ -36,7 +36,6 @@ pub mod InRange
 pub mod Journals
 pub mod LaterKinds
 pub mod LeftFalls
-pub mod NoPlan
 pub mod OwnSteps
 pub mod Parcels
 pub mod Provenance

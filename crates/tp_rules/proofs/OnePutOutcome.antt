@@ -20,7 +20,7 @@ commit_at = refl
 all_at_1 : Each (λ (c : Commit). c.stamp ≡ 1) (commits (reverse one_put_journal))
 all_at_1 = (refl, (refl, (refl, tt)))
 
-one_put_agrees : CommitsAgree one_put_journal
+one_put_agrees : CommitsAgree (reverse one_put_journal)
 unfolding CommitsAgree
 one_put_agrees a b here there same =
     let at_1 : (c : Commit) → IsIn c (commits (reverse one_put_journal)) → c.stamp ≡ 1 = λ c. each_in (λ (d : Commit). d.stamp ≡ 1) (commits (reverse one_put_journal)) c all_at_1 in

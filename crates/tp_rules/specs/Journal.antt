@@ -1,6 +1,7 @@
 -- Journals, the newest entry first: what was sent, and who did what. Entries and places count from 1.
-use Rattle.std.specs.Prelude.{ℕ, suc, ◌==◌, ◌&&◌, not, Bool, true, false, cond, List, [], ◌∷◌, ◌++◌, Option, Some, None, length, option_map, map, unwrap_or}
+use Rattle.std.specs.Prelude.{ℕ, suc, ◌⊎◌, ◌==◌, ◌&&◌, not, Bool, true, false, cond, List, [], ◌∷◌, ◌++◌, Option, Some, None, length, option_map, map, unwrap_or}
 use Rattle.std.specs.List.{list_any}
+use Rattle.tp_base.specs.Lists.{IsIn}
 use Rattle.tp_base.specs.Names.{same_name}
 use Rattle.tp_base.specs.declared.names.ActorName.{ActorName}
 use Rattle.tp_base.specs.declared.names.ActorName.TheVariants.{Process, Executor, Session}
@@ -39,6 +40,11 @@ with_act (Some act) acts = act ∷ acts
 abbrev pub acts : List Entry → ActorName → List Act
 acts [] a = []
 acts (e ∷ older) a = cond (same_name e.actor a) (with_act (act_of older e.event) (acts older a)) (acts older a)
+
+-- a message was sent
+abbrev pub IsSent : List Entry → Message → Type 0
+IsSent [] m = ⊥
+IsSent (e ∷ older) m = IsIn m e.outputs ⊎ IsSent older m
 
 abbrev pub numbered : ℕ → ℕ → List Message → List Parcel
 numbered entry place [] = []

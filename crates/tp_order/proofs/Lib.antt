@@ -1,0 +1,12 @@
+pub mod Commits
+pub mod Declarations
+pub mod Execution
+pub mod Heeds
+pub mod Laws
+pub mod Least
+pub mod Line
+pub mod Ordered
+pub mod Promised
+pub mod Ready
+pub mod Stable
+pub mod Turns

@@ -1,0 +1,2 @@
+//! From what the processes settle to one line of commands.
+#![tactic(auto)]
