@@ -1,7 +1,8 @@
-ghost use Rattle.std.specs.Prelude.{◌≡◌, ◌<◌, ◌≤◌, IfOk, IfSome, OnOk, OnErr, length, take};
+ghost use Rattle.std.specs.Prelude.{◌≡◌, ◌<◌, ◌≤◌, IfErr, IfOk, IfSome, OnOk, OnErr, length, take};
 ghost use Rattle.std.specs.Io.KnownBytes.{Appends, Consumes, IsAtEnd};
 ghost use Rattle.tp_outside.specs.Causes.{HasCause};
-ghost use Rattle.tp_outside.specs.Bytes.{TakesAtMost, AppendsFront};
+ghost use Rattle.tp_outside.specs.declared.whole.ReadError.{ReadError};
+ghost use Rattle.tp_outside.specs.Bytes.{TakesAtMost, TakesFewer, AppendsFront};
 
 use crate::{Sink, Source, WriteFault};
 use std::alloc::Global;
@@ -32,6 +33,9 @@ pub fn read_to_limit<S: Source>(
 
     // After a refusal too, what was taken is the front of what was left.
     ensures taken { TakesAtMost limit (S.left source.old) (S.left source.new) }
+
+    // A read fails only where fewer bytes than the limit were taken.
+    ensures below { IfErr result (λ error. error ≡ ReadError.Failed → TakesFewer limit (S.left source.old) (S.left source.new)) }
     ensures cause { HasCause (S.faults source.old) (S.faults source.new) result ReadError.Failed }
 {
     let mut bytes = Vec::new(alloc);

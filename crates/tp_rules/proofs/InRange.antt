@@ -16,7 +16,7 @@ use Rattle.tp_rules.specs.Executor as executor
 use Rattle.tp_rules.specs.Journal.{client_of, is_known, sent}
 use Rattle.tp_rules.specs.Process as process
 use Rattle.tp_rules.specs.Session as session
-use Rattle.tp_rules.specs.Runs.{FollowsRules, IsFreeHistory, IsFreeRun}
+use Rattle.tp_rules.specs.Runs.{AreInRange, FollowsRules, IsFreeHistory, IsFreeRun}
 use Rattle.tp_rules.specs.Sheet.{Setting, ring_setting}
 use Rattle.tp_rules.specs.declared.event.Entry.{Entry}
 use Rattle.tp_rules.specs.declared.event.Parcel.{Parcel}
@@ -55,7 +55,7 @@ module _ (script : Script) (accepted : IsAccepted script) where
       (sent older) (sent_fit older history)
 
   -- the same of a journal in its own order
-  pub run_in_range : (journal : List Entry) → IsFreeRun script journal → Each (λ e. Each IsInRange e.outputs) journal
+  pub run_in_range : (journal : List Entry) → IsFreeRun script journal → AreInRange journal
   unfolding IsFreeRun
   run_in_range journal run =
       let fits : Each (λ e. Each (IsFit script) e.outputs) (reverse journal) = history_passes script (IsFit script) fit_handed_on (reverse journal) run in

@@ -92,14 +92,12 @@ result_at older id p _ = None
 abbrev pub first_result : List Entry → CommandId → ℕ → Option (List Answer)
 first_result [] id p = None
 first_result (e ∷ older) id p = cond (same_name e.actor (Session id.session))
-    (option_or (first_result older id p) (result_at older id p e.event))
-    (first_result older id p)
+    (option_or (first_result older id p) (result_at older id p e.event)) (first_result older id p)
 
 abbrev pub reply_from : Script → (ℕ → Option (List Answer)) → Option Command → Option (List Answer)
 reply_from script parts None = None
 reply_from script parts (Some c) = cond (list_all (λ p. is_some (parts p)) (accessed script.topology c))
-    (Some (merged script.topology.partitions c.ops (λ p. unwrap_or (parts p) [])))
-    None
+    (Some (merged script.topology.partitions c.ops (λ p. unwrap_or (parts p) []))) None
 
 -- the reply to a command: the first answers of each partition that it accesses, merged, where all of them were delivered
 abbrev pub reply_to : Script → List Entry → CommandId → Option (List Answer)

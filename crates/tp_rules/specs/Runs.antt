@@ -1,6 +1,8 @@
 -- Which journals follow the rules, with the plan of the script and without.
 use Rattle.std.specs.Prelude.{◌≡◌, ◌<◌, true, false, List, [], ◌∷◌, Option, Some, None, reverse}
 use Rattle.tp_base.specs.declared.names.ActorName.{ActorName}
+use Rattle.tp_base.specs.Lists.{Each}
+use Rattle.tp_wire.specs.Ranges.{IsInRange}
 use Rattle.tp_rules.specs.Acts.{Act}
 use Rattle.tp_rules.specs.Journal.{output_at, act_of, acts, identity_in, is_known, is_live}
 use Rattle.tp_rules.specs.Plan.{due_of, fate_of, deliveries_left, Fate, Lost, Times, is_planned}
@@ -84,3 +86,7 @@ IsRun script journal = IsHistory script (reverse journal)
 -- the same without the plan: any losses, repeats, orders, recoveries and crashes
 unfoldable pub IsFreeRun : Script → List Entry → Type 0
 IsFreeRun script journal = IsFreeHistory script (reverse journal)
+
+-- each message that an entry of the journal sends is in the ranges of the wire format
+abbrev pub AreInRange : List Entry → Type 0
+AreInRange journal = Each (λ e. Each IsInRange e.outputs) journal

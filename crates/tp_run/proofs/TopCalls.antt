@@ -5,11 +5,14 @@ use Rattle.tp_driver.specs.Driving.{IsDriven}
 use Rattle.tp_netbook.specs.Served.{IsServed}
 use Rattle.tp_outside.specs.Causes.{Rose}
 use Rattle.tp_rules.proofs.InRange.{run_in_range}
+use Rattle.tp_laws.proofs.Legal.{run_legal}
 use Rattle.tp_rules.proofs.Journals.{run_is_free}
+use Rattle.tp_rules.specs.Laws.{KeepsLaws}
+use Rattle.tp_rules.specs.Runs.{AreInRange}
 use Rattle.tp_rules.specs.declared.event.Entry.{Entry}
 use Rattle.tp_run.specs.Texts.{INPUT_MOST, IsTextOf, cause_of, is_built}
 use Rattle.tp_run.proofs.TextLaws.{front_cause, served_text}
-use Rattle.tp_run.specs.TopCall.{AreInRange, IsCauseOf, IsFaultOf, IsOrMemory, IsRefusedFor, IsSaidBy}
+use Rattle.tp_run.specs.TopCall.{IsCauseOf, IsFaultOf, IsOrMemory, IsRefusedFor, IsSaidBy}
 use Rattle.tp_run.specs.declared.finished.Cause.{Cause}
 use Rattle.tp_run.specs.declared.finished.Cause.TheVariants.{Words, Script as ScriptFault, Input, Unbuilt, Read, Write, Memory}
 use Rattle.tp_script.specs.declared.script.Script.{Script}
@@ -78,6 +81,14 @@ pub kept_in_range : (kept : Option Script) (script : Script) (journal : List Ent
     → IfSome kept (λ _. AreInRange journal)
 kept_in_range None script journal e served driven = tt
 kept_in_range (Some s) script journal e served driven = run_in_range script served.accepted journal (run_is_free script journal driven.run)
+
+-- a run of the script that was kept keeps the laws
+pub kept_laws : (kept : Option Script) (script : Script) (journal : List Entry) → kept ≡ Some script → IsServed script → IsDriven script journal
+    → IfSome kept (λ s. KeepsLaws s journal)
+kept_laws None script journal e served driven = tt
+kept_laws (Some s) script journal e served driven =
+    let same : script ≡ s = cc in
+    subst (λ (of : Script). KeepsLaws of journal) same (run_legal script journal served.accepted driven.run)
 
 -- with a script, where no count rose, all went well but for memory
 pub exact_with : (before now : ℕ) (cause : Option Cause) → (cause ≡ None) ⊎ (cause ≡ Some Write) ⊎ (cause ≡ Some Memory)

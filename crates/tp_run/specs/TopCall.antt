@@ -1,14 +1,11 @@
 -- What the top call's answer means.
 use Rattle.std.specs.Prelude.{ℕ, ◌≡◌, ◌≢◌, ◌⊎◌, List, [], ◌∷◌, Option, Some, None, IfSome, codes}
-use Rattle.tp_base.specs.Lists.{Each}
 use Rattle.tp_outside.specs.Causes.{Rose}
-use Rattle.tp_rules.specs.declared.event.Entry.{Entry}
 use Rattle.tp_run.specs.Status.{status_of}
 use Rattle.tp_run.specs.Texts.{IsTextOf, cause_of}
 use Rattle.tp_run.specs.declared.finished.Cause.{Cause}
 use Rattle.tp_run.specs.declared.finished.Cause.TheVariants.{Words, Script, Input, Unbuilt, Read, Write, Memory}
 use Rattle.tp_script.specs.declared.script.Script.{Script as ScriptValue}
-use Rattle.tp_wire.specs.Ranges.{IsInRange}
 
 -- the words that are served
 abbrev pub step_words : List (List ℕ)
@@ -45,7 +42,3 @@ IsOrMemory cause answer = (answer ≡ cause) ⊎ (answer ≡ Some Memory)
 pub record IsFaultOf (fault : Cause) (before now : ℕ) (cause : Option Cause) : Type 0 where
   pub rose : cause ≡ Some fault → Rose before now
   pub kept : cause ≢ Some fault → now ≡ before
-
--- each message that an entry of the journal sends is in the ranges of the wire format
-abbrev pub AreInRange : List Entry → Type 0
-AreInRange journal = Each (λ e. Each IsInRange e.outputs) journal

@@ -1,15 +1,16 @@
-ghost use Rattle.std.specs.Prelude.{true, ◌≡◌, ◌≢◌, ◌⊎◌, ℕ, List, [], ◌++◌, Some, None, map, IfOk, IfErr, IfSome, IsTrue, ◌↔◌, string_bytes, codes, OnOk, length, ◌≤◌};
+ghost use Rattle.std.specs.Prelude.{is_some, ◌+◌, true, ◌≡◌, ◌≢◌, ◌⊎◌, ℕ, List, [], ◌++◌, Some, None, map, IfOk, IfErr, IfSome, IsTrue, ◌↔◌, string_bytes, codes, OnOk, length, ◌≤◌};
 ghost use Rattle.tp_outside.specs.Causes.{HasCause, Rose};
-ghost use Rattle.tp_outside.specs.Bytes.{AppendsFront};
+ghost use Rattle.tp_outside.specs.Bytes.{AppendsFront, TakesAtMost, TakesFewer};
 ghost use Rattle.std.specs.Io.KnownBytes.{Appends, IsAtEnd, Keeps};
 ghost use Rattle.tp_driver.specs.Driving.{IsDriven};
 ghost use Rattle.tp_netbook.specs.Served.{IsServed};
 ghost use Rattle.tp_print.specs.Report.{report_text};
 ghost use Rattle.tp_rules.specs.Pending.{IsPickedRun, IsQuiet};
-ghost use Rattle.tp_rules.specs.Runs.{IsRun};
+ghost use Rattle.tp_rules.specs.Laws.{KeepsLaws};
+ghost use Rattle.tp_rules.specs.Runs.{AreInRange, IsRun};
 ghost use Rattle.tp_script.specs.declared.script.Script.{Script as ScriptValue};
 ghost use Rattle.tp_run.specs.Texts.{INPUT_MOST, IsTextOf, cause_of, is_built};
-ghost use Rattle.tp_run.specs.TopCall.{AreInRange, step_words, IsStatusOf, IsSaidBy, IsRefusedFor, IsOrMemory, IsFaultOf};
+ghost use Rattle.tp_run.specs.TopCall.{step_words, IsStatusOf, IsSaidBy, IsRefusedFor, IsOrMemory, IsFaultOf};
 
 use crate::cast::cast;
 use crate::finished::{Cause, Finished};
@@ -36,15 +37,23 @@ pub fn tempo_plain<S: Source, K: Sink>(
     ensures words { (map string_bytes words.now ≢ step_words) ↔ (result.cause ≡ Some Cause.Words) }
     ensures unread { result.cause ≡ Some Cause.Words → (S.left input.new ≡ S.left input.old) × (S.faults input.new ≡ S.faults input.old) }
 
+    // No more is read than shows that the input is too long, and no fault past that is answered.
+    ensures taken { TakesAtMost (INPUT_MOST + 1) (S.left input.old) (S.left input.new) }
+    ensures below { result.cause ≡ Some Cause.Read → TakesFewer (INPUT_MOST + 1) (S.left input.old) (S.left input.new) }
+
     // The input is refused where it is too long, a line of it is faulty, or its script isn't served, each with its cause.
     // Else it was read to its end, it is the text of the script, and the script is kept.
     ensures refused { IfSome result.cause (λ cause. result.script ≡ None → cause ≢ Cause.Words → IsRefusedFor (S.left input.old) cause) }
     ensures script { IsSaidBy (S.left input.old) result.script }
     ensures ended { IfSome result.script (λ script. S.ended input.new × IsAtEnd (S.left input.new)) }
 
+    // Without a cause there is a script.
+    ensures answered { result.cause ≡ None → is_some result.script ≡ true }
+
     // With a script the journal is a run of it, in which each step is the one that the picks choose, and whose messages
-    // have bytes. Where there was memory, it is quiet.
+    // have bytes. It keeps the laws. Where there was memory, it is quiet.
     ensures run { IfSome result.script (λ script. IsRun script result.journal) }
+    ensures legal { IfSome result.script (λ script. KeepsLaws script result.journal) }
     ensures picked { IfSome result.script (λ script. IsPickedRun script result.journal) }
     ensures ranges { IfSome result.script (λ script. AreInRange result.journal) }
     ensures quiet { IfSome result.script (λ script. result.cause ≢ Some Cause.Memory → IsQuiet script result.journal) }
@@ -112,6 +121,8 @@ fn read_input<S: Source>(alloc: Global, input: &mut S) -> Result<Script, Cause>
     ensures script { IfOk result (λ script. IsSaidBy (S.left input.old) (Some script)) }
     ensures served { IfOk result (λ script. IsServed script) }
     ensures ended { OnOk result (S.ended input.new × IsAtEnd (S.left input.new)) }
+    ensures taken { TakesAtMost (INPUT_MOST + 1) (S.left input.old) (S.left input.new) }
+    ensures below { IfErr result (λ cause. cause ≡ Cause.Read → TakesFewer (INPUT_MOST + 1) (S.left input.old) (S.left input.new)) }
     ensures unrefused { OnOk result (IfSome (S.left input.old) (λ text. cause_of text ≡ None)) }
     ensures refused { IfErr result (IsRefusedFor (S.left input.old)) }
     ensures fault { HasCause (S.faults input.old) (S.faults input.new) result Cause.Read }

@@ -1,11 +1,15 @@
 use Rattle.std.proofs.Common.{Err, ap, sym, ◌∙◌}
-use Rattle.tp_run.proofs.TopCalls.{complete, exact_read, exact_refused, exact_with, kept_in_range, same_cause}
+use Rattle.tp_run.proofs.TopCalls.{complete, exact_read, exact_refused, exact_with, kept_in_range, kept_laws, same_cause}
 use Rattle.tp_run.proofs.plain.tempo_plain.Goals as goal
 use Rattle.tp_run.specs.declared.finished.Cause.{Cause}
 
 pub returns-in-Ok-clause-ranges : goal.returns-in-Ok-clause-ranges
 returns-in-Ok-clause-ranges g c =
     kept_in_range c.step.result.script c.in-Ok.script _ c.step.ensures.script c.in-Ok.ensures.served c.step.ensures.driven
+
+pub returns-in-Ok-clause-legal : goal.returns-in-Ok-clause-legal
+returns-in-Ok-clause-legal g c =
+    kept_laws c.step.result.script c.in-Ok.script _ c.step.ensures.script c.in-Ok.ensures.served c.step.ensures.driven
 
 pub returns-in-Ok-clause-exact : goal.returns-in-Ok-clause-exact
 returns-in-Ok-clause-exact g c = λ text words left read write.

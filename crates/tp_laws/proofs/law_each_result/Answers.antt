@@ -1,0 +1,7 @@
+use Rattle.std.specs.Prelude.{reverse}
+use Rattle.tp_laws.proofs.Legal.{results, free_history}
+use Rattle.tp_laws.proofs.law_each_result.Goals as goal
+
+pub returns : goal.returns
+returns c = results c.args.script.now c.requires.accepted (reverse c.args.entries.now)
+    (free_history c.args.script.now c.args.entries.now c.requires.free_run)
