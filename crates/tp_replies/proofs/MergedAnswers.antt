@@ -1,5 +1,4 @@
--- The answers of one store are those of its partitions' stores, merged; and of its answers, those on a partition are the
--- answers of that partition's store. Used for replies and for results.
+-- The answers of partitions' stores, merged, are those of one store. Used for replies and for results.
 use Rattle.std.proofs.Common.{◌≡◌, ◌≢◌, ℕ, Bool, true, false, cond, List, [], ◌∷◌, ◌++◌, refl, sym, ap, subst, ◌∙◌}
 use Rattle.std.specs.Prelude.{filter, ◌==◌}
 use Rattle.std.specs.List.{list_any}
@@ -20,27 +19,33 @@ unfolding ops_on
 answers_on_partition n p [] f g h = refl
 answers_on_partition n p (op ∷ ops) f g h = on_test (is_on n p op) refl (answers_on_partition n p ops (after op f))
   where
-    on_test : (b : Bool) → is_on n p op ≡ b
-        → ((k : Contents) → AgreeOn n p (after op f) k → answers_on n p ops (answers_of ops (after op f)) ≡ answers_of (ops_on n p ops) k)
-        → cond b (answer_of op f ∷ answers_on n p ops (answers_of ops (after op f))) (answers_on n p ops (answers_of ops (after op f)))
-        ≡ answers_of (cond b (op ∷ filter (is_on n p) ops) (filter (is_on n p) ops)) g
+    rest : List Answer
+    rest = answers_on n p ops (answers_of ops (after op f))
+
+    own : List Op
+    own = filter (is_on n p) ops
+
+    on_test : (b : Bool) → is_on n p op ≡ b → ((k : Contents) → AgreeOn n p (after op f) k → rest ≡ answers_of own k)
+        → cond b (answer_of op f ∷ rest) rest ≡ answers_of (cond b (op ∷ own) own) g
     on_test true on more =
         let here = eqb-true (partition_number (key_of op) n) p on in
-        ap (λ (a : Answer). a ∷ answers_on n p ops (answers_of ops (after op f))) (same_answer n p op f g here h)
+        ap (λ (a : Answer). a ∷ rest) (same_answer n p op f g here h)
         ∙ ap (λ (as' : List Answer). answer_of op g ∷ as') (more (after op g) (after_both n p op f g here h))
     on_test false off more = more g (after_one n p op f g (elsewhere n p op off) h)
 
--- the answers of a partition, by a store that agrees there with the one store
+-- answers to the operations on a partition, by a store that agrees there with the one store
 pub record IsPart (n : ℕ) (ops : List Op) (f : Contents) (p : ℕ) (answers : List Answer) : Type 0 where
+  -- the store
   pub store : Contents
   pub agrees : AgreeOn n p f store
+  -- the answers are its own
   pub answered : answers ≡ answers_of (ops_on n p ops) store
 
--- the answers left of a partition once those of the first operation's partition have lost their first
+-- what is left of each partition's answers, once the first of partition p is merged
 abbrev left : ℕ → (ℕ → List Answer) → ℕ → List Answer
 left p parts q = cond (q == p) (rest_of (parts q)) (parts q)
 
--- the parts of all accessed partitions, merged, are the one store's answers
+-- the parts of all partitions that the operations are on, merged, are the one store's answers
 pub merged_parts : (n : ℕ) (ops : List Op) (f : Contents) (parts : ℕ → List Answer)
     → ((p : ℕ) → list_any (is_on n p) ops ≡ true → IsPart n ops f p (parts p)) → merged n ops parts ≡ answers_of ops f
 unfolding merged ops_on
@@ -49,27 +54,27 @@ merged_parts n (op ∷ ops) f parts h =
     let p : ℕ = partition_number (key_of op) n in
     let on : is_on n p op ≡ true = eq-eqb p p refl in
     let own = h p (or_left (is_on n p op) (list_any (is_on n p) ops) on) in
-    let is : parts p ≡ answer_of op own.store ∷ answers_of (ops_on n p ops) (after op own.store) =
-    own.answered ∙ ap (λ (b : Bool). answers_of (cond b (op ∷ filter (is_on n p) ops) (filter (is_on n p) ops)) own.store) on in
+    let first_then : parts p ≡ answer_of op own.store ∷ answers_of (ops_on n p ops) (after op own.store) =
+    own.answered ∙ ap (λ (b : Bool). answers_of (with_op p b) own.store) on in
     let first : first_of (parts p) ≡ answer_of op f ∷ [] =
-    ap first_of is ∙ ap (λ (a : Answer). a ∷ []) (sym (same_answer n p op f own.store refl own.agrees)) in
+    ap first_of first_then ∙ ap (λ (a : Answer). a ∷ []) (sym (same_answer n p op f own.store refl own.agrees)) in
     ap (λ (as' : List Answer). as' ++ merged n ops (left p parts)) first
     ∙ ap (λ (as' : List Answer). answer_of op f ∷ as') (merged_parts n ops (after op f) (left p parts) (λ q some.
     cond_both (q == p) (rest_of (parts q)) (parts q) (IsPart n ops (after op f) q)
-    (λ t. let same : q ≡ p = eqb-true q p t in
-    subst (λ (k : ℕ). IsPart n ops (after op f) k (rest_of (parts k))) (sym same) (record {
+    (λ t. let same : p ≡ q = sym (eqb-true q p t) in
+    subst (λ (k : ℕ). IsPart n ops (after op f) k (rest_of (parts k))) same (record {
       store = after op own.store;
       agrees = after_both n p op f own.store refl own.agrees;
-      answered = ap rest_of is;
+      answered = ap rest_of first_then;
     }))
     (λ no.
     let apart : p ≢ q = λ e. absurd (let t : (q == p) ≡ true = eq-eqb q p (sym e) in cc) in
-    let off : is_on n q op ≡ false = ne_eqb p q apart in
     let other = h q (or_right (is_on n q op) (list_any (is_on n q) ops) some) in
     record {
       store = other.store;
       agrees = after_one n q op f other.store apart other.agrees;
-      answered =
-          other.answered
-          ∙ ap (λ (b : Bool). answers_of (cond b (op ∷ filter (is_on n q) ops) (filter (is_on n q) ops)) other.store) off;
+      answered = other.answered ∙ ap (λ (b : Bool). answers_of (with_op q b) other.store) (ne_eqb p q apart);
     })))
+  where
+    with_op : ℕ → Bool → List Op
+    with_op q b = cond b (op ∷ filter (is_on n q) ops) (filter (is_on n q) ops)

@@ -1,5 +1,4 @@
--- The commands of an accepted script by their identifiers: each has an operation, and each is the one at its number among those of
--- its session. Used for submissions, for replies and for what a session keeps.
+-- Commands by their identifiers, among all and in their session. Used for submissions, for replies and for sessions.
 use Rattle.std.proofs.Common.{◌≡◌, ℕ, zero, suc, ◌≤◌, inl, inr, Bool, true, List, [], ◌∷◌, length, Option, Some, None, refl, sym, ap, ◌∙◌}
 use Rattle.std.specs.Prelude.{find, slice_get, ◌==◌}
 use Rattle.std.proofs.lemmas.Bool.{cond_both, eq-eqb, eqb-true}
@@ -21,7 +20,7 @@ use Rattle.tp_rules.proofs.UpTo.{get_map, get_up_to}
 use Rattle.tp_script.specs.Accepted.{IsAccepted, commands_by}
 use Rattle.tp_script.specs.declared.script.Script.{Script}
 
--- what is found is in the list, and passes
+-- what is found is in the list, and passes the test
 find_in : {X : Type 0} (test : X → Bool) (xs : List X) (x : X) → find test xs ≡ Some x → IsIn x xs × (test x ≡ true)
 find_in test [] x e = absurd cc
 find_in test (y ∷ ys) x e =
@@ -30,21 +29,24 @@ find_in test (y ∷ ys) x e =
     (λ fails found. let rest = find_in test ys x found in (inr rest.0, rest.1)) e
 
 -- the command of an identifier is one of the script's, and is named so
-found : (script : Script) (id : CommandId) (c : Command) → command_of script id ≡ Some c → IsIn c script.commands × (c.id ≡ id)
+found : (script : Script) (id : CommandId) (c : Command) → command_of script id ≡ Some c
+    → IsIn c script.commands × (c.id ≡ id)
 found script id c is =
     let it = find_in (λ (d : Command). same_id d.id id) script.commands c is in (it.0, same_id_is c.id id it.1)
 
 module _ (script : Script) (accepted : IsAccepted script) where
-  -- the command of an identifier has an operation
+  -- it has an operation
   pub some_operation : (id : CommandId) (c : Command) → command_of script id ≡ Some c → 1 ≤ length c.ops
   some_operation id c is = let range = command_in_range script c accepted (found script id c is).0 in range.2.0
 
+  -- a session's commands are numbered from 1
   number_is : (s i : ℕ) (c : Command) → slice_get (commands_by s script.commands) i ≡ Some c → c.id.number ≡ suc i
   number_is s i c at =
       let own : List Command = commands_by s script.commands in
       let same : Some c.id.number ≡ Some (suc i) =
       sym (get_map (λ (d : Command). d.id.number) own i c at)
-      ∙ ap (λ (ns : List ℕ). slice_get ns i) (accepted.numbered s) ∙ get_up_to (length own) i (slice_get_within own i c at) in
+      ∙ ap (λ (ns : List ℕ). slice_get ns i) (accepted.numbered s)
+      ∙ get_up_to (length own) i (slice_get_within own i c at) in
       cc
 
   -- the command at a session's number is one of the script's, and is named so
@@ -52,14 +54,15 @@ module _ (script : Script) (accepted : IsAccepted script) where
       → IsIn c script.commands × (c.id ≡ record { session = s; number = n })
   named s zero c at = absurd cc
   named s (suc i) c at =
-      let number : c.id.number ≡ suc i = number_is s.0 i c at in
-      let own = filter_in (λ (d : Command). d.id.session.0 == s.0) script.commands c (in_get (commands_of script s) i c at) in
+      let there : IsIn c (commands_of script s) = in_get (commands_of script s) i c at in
+      let own = filter_in (λ (d : Command). d.id.session.0 == s.0) script.commands c there in
       let session : c.id.session.0 ≡ s.0 = eqb-true c.id.session.0 s.0 own.1 in
+      let number : c.id.number ≡ suc i = number_is s.0 i c at in
       (own.0, λ k. record { session = record { 0 = session k }; number = number k })
 
   -- the command of an identifier is the one at its number among its session's
   pub command_at : (id : CommandId) → nth (commands_of script id.session) id.number ≡ command_of script id
-  command_at id = of_found (command_of script id) refl
+  command_at id = of_command (command_of script id) refl
     where
       own : List Command
       own = commands_of script id.session
@@ -68,14 +71,18 @@ module _ (script : Script) (accepted : IsAccepted script) where
       none None at is = refl
       none (Some d) at is =
           let it = named id.session id.number d at in
-          let there : command_of script id ≡ Some d = ap (command_of script) (sym it.1) ∙ command_is script accepted d it.0 in
+          let there : command_of script id ≡ Some d =
+          ap (command_of script) (sym it.1) ∙ command_is script accepted d it.0 in
           absurd cc
 
-      of_found : (o : Option Command) → command_of script id ≡ o → nth own id.number ≡ o
-      of_found None is = none (nth own id.number) refl is
-      of_found (Some c) is =
+      of_command : (o : Option Command) → command_of script id ≡ o → nth own id.number ≡ o
+      of_command None is = none (nth own id.number) refl is
+      of_command (Some c) is =
           let it = found script id c is in
-          let session : c.id.session.0 ≡ id.session.0 = ap (λ (i : CommandId). i.session.0) it.1 in
-          let place = get_in own c (in_filter (λ (d : Command). d.id.session.0 == id.session.0) script.commands c it.0
-          (eq-eqb c.id.session.0 id.session.0 session)) in
-          ap (nth own) (ap (λ (i : CommandId). i.number) (sym it.1) ∙ number_is id.session.0 place.0 c place.1) ∙ place.1
+          let session : (c.id.session.0 == id.session.0) ≡ true =
+          eq-eqb c.id.session.0 id.session.0 (ap (λ (i : CommandId). i.session.0) it.1) in
+          let place = get_in own c
+          (in_filter (λ (d : Command). d.id.session.0 == id.session.0) script.commands c it.0 session) in
+          let number : id.number ≡ suc place.0 =
+          ap (λ (i : CommandId). i.number) (sym it.1) ∙ number_is id.session.0 place.0 c place.1 in
+          ap (nth own) number ∙ place.1

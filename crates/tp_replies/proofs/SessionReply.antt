@@ -1,4 +1,4 @@
--- The reply that a session's own rules give is that which the journal gives. Used for the laws of runs.
+-- The reply by a session's own rules is the reply by the journal. Used for the laws of runs.
 use Rattle.std.proofs.Common.{◌≡◌, ℕ, inl, inr, Bool, true, cond, List, [], ◌∷◌, ◌++◌, Option, Some, None, refl, ap, ◌∙◌}
 use Rattle.std.specs.Prelude.{is_some, unwrap_or, ◌==◌, ◌&&◌}
 use Rattle.std.specs.List.{list_all, list_any}
@@ -24,28 +24,34 @@ use Rattle.tp_replies.specs.SessionReply.{session_of, session_reply_to}
 use Rattle.tp_replies.proofs.KeptResults.{kept_is_first}
 use Rattle.tp_replies.proofs.SessionCommands.{command_at}
 
--- only the answers of the partitions that operations are on matter
+-- merging asks only for the answers of partitions that operations are on
 merged_on : (n : ℕ) (ops : List Op) (f g : ℕ → List Answer) → ((p : ℕ) → list_any (is_on n p) ops ≡ true → f p ≡ g p)
     → merged n ops f ≡ merged n ops g
 unfolding merged
 merged_on n [] f g same = refl
 merged_on n (op ∷ ops) f g same =
     let p : ℕ = partition_number (key_of op) n in
-    ap (λ (xs : List Answer). first_of xs ++ merged n ops (λ q. cond (q == p) (rest_of (f q)) (f q)))
-    (same p (or_left (is_on n p op) (list_any (is_on n p) ops) (eq-eqb p p refl)))
+    let here : list_any (is_on n p) (op ∷ ops) ≡ true =
+    or_left (is_on n p op) (list_any (is_on n p) ops) (eq-eqb p p refl) in
+    ap (λ (xs : List Answer). first_of xs ++ merged n ops (λ q. cond (q == p) (rest_of (f q)) (f q))) (same p here)
     ∙ ap (λ (ys : List Answer). first_of (g p) ++ ys) (merged_on n ops _ _ (λ q on.
-    ap (λ (xs : List Answer). cond (q == p) (rest_of xs) xs) (same q (or_right (is_on n q op) (list_any (is_on n q) ops) on))))
+    let later : list_any (is_on n q) (op ∷ ops) ≡ true = or_right (is_on n q op) (list_any (is_on n q) ops) on in
+    ap (λ (xs : List Answer). cond (q == p) (rest_of xs) xs) (same q later)))
 
-list_all_same : {X : Type 0} (f g : X → Bool) (xs : List X) → ((x : X) → IsIn x xs → f x ≡ g x) → list_all f xs ≡ list_all g xs
+list_all_same : {X : Type 0} (f g : X → Bool) (xs : List X) → ((x : X) → IsIn x xs → f x ≡ g x)
+    → list_all f xs ≡ list_all g xs
 list_all_same f g [] same = refl
 list_all_same f g (x ∷ xs) same =
-    ap (λ (b : Bool). b && list_all f xs) (same x (inl refl)) ∙ ap (λ (b : Bool). g x && b) (list_all_same f g xs (λ y there. same y (inr there)))
+    ap (λ (b : Bool). b && list_all f xs) (same x (inl refl))
+    ∙ ap (λ (b : Bool). g x && b) (list_all_same f g xs (λ y there. same y (inr there)))
 
-pub session_reply : (script : Script) (older : List Entry) → IsAccepted script → IsFreeHistory script older → (id : CommandId)
-    → session_reply_to script older id ≡ reply_to script older id
+-- a session keeps the first results that were delivered, and merges them as the journal's reply does
+pub session_reply : (script : Script) (older : List Entry) → IsAccepted script → IsFreeHistory script older
+    → (id : CommandId) → session_reply_to script older id ≡ reply_to script older id
 unfolding is_accessed
 session_reply script older accepted history id =
-    ap (session.merged_reply script.topology table) (command_at script accepted id) ∙ by_command (command_of script id) refl
+    ap (session.merged_reply script.topology table) (command_at script accepted id)
+    ∙ by_command (command_of script id) refl
   where
     table : List (Option (List Answer))
     table = (session_of script older id).kept id.number
@@ -55,12 +61,13 @@ session_reply script older accepted history id =
     by_command None is = refl
     by_command (Some c) is =
         let n : ℕ = script.topology.partitions in
+        let ps : List ℕ = accessed script.topology c in
         let first : ℕ → Option (List Answer) = first_result older id in
         let same : (p : ℕ) → list_any (is_on n p) c.ops ≡ true → kept_at table p ≡ first p =
         λ p on. kept_is_first script accepted id c is p on older history in
         ap (λ (b : Bool). cond b (Some (merged n c.ops (session.answers_at table))) None)
-        (list_all_same (λ p. is_some (kept_at table p)) (λ p. is_some (first p)) (accessed script.topology c)
+        (list_all_same (λ p. is_some (kept_at table p)) (λ p. is_some (first p)) ps
         (λ p there. ap is_some (same p (filter_in (is_accessed n c) (up_to n) p there).1)))
-        ∙ ap (λ (as' : List Answer). cond (list_all (λ p. is_some (first p)) (accessed script.topology c)) (Some as') None)
+        ∙ ap (λ (answers : List Answer). cond (list_all (λ p. is_some (first p)) ps) (Some answers) None)
         (merged_on n c.ops (session.answers_at table) (λ p. unwrap_or (first p) [])
         (λ p on. ap (λ (o : Option (List Answer)). unwrap_or o []) (same p on)))

@@ -10,7 +10,8 @@ use Rattle.tp_script.specs.declared.script.Script.{Script}
 
 -- the state of a command's session after a journal
 abbrev pub session_of : Script → List Entry → CommandId → session.SessionState
-session_of script older id = session.state_after script.topology (client_of script id.session) (acts older (Session id.session))
+session_of script older id =
+    session.state_after script.topology (client_of script id.session) (acts older (Session id.session))
 
 -- what the session itself answers
 abbrev pub session_reply_to : Script → List Entry → CommandId → Option (List Answer)

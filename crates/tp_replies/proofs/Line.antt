@@ -1,5 +1,4 @@
--- What an executor executed is in the line, and what is in the line was submitted. Used for real time, and for what a session
--- keeps.
+-- What was executed is in the line, and what is in the line was submitted. Used for replies and for real time.
 use Rattle.std.proofs.Common.{ℕ, inl, inr, List, [], ◌∷◌, ◌++◌, Option, Some, None, sym, subst}
 use Rattle.std.specs.List.{list_any}
 use Rattle.std.proofs.lemmas.Bool.{cond_both, or_right}
@@ -20,7 +19,7 @@ use Rattle.tp_rules.specs.declared.event.Event.TheVariants.{Deliver, Dropped, In
 use Rattle.tp_rules.specs.declared.event.Inner.TheVariants.{Execute}
 use Rattle.tp_script.specs.Accepted.{IsAccepted}
 use Rattle.tp_script.specs.declared.script.Script.{Script}
-use Rattle.tp_replies.specs.Executed.{IsExecuted}
+use Rattle.tp_replies.specs.Executions.{IsExecuted}
 use Rattle.tp_replies.proofs.Submissions.{IsSubmitted, execution_submitted}
 
 -- the line keeps what is in it
@@ -29,12 +28,15 @@ line_keeps id ids None there = there
 line_keeps id ids (Some x) there =
     cond_both (has same_id x ids) ids (ids ++ x ∷ []) (IsIn id) (λ t. there) (λ f. in_left ids (x ∷ []) id there)
 
--- and takes what is executed
+-- and takes in what is executed
 line_takes : (id : CommandId) (ids : List CommandId) → IsIn id (once_at_end ids (Some id))
-line_takes id ids = cond_both (has same_id id ids) ids (ids ++ id ∷ []) (IsIn id) (has_in same_id same_id_is id ids) (λ f. in_push ids id)
+line_takes id ids =
+    cond_both (has same_id id ids) ids (ids ++ id ∷ []) (IsIn id) (has_in same_id same_id_is id ids)
+    (λ f. in_push ids id)
 
 -- what an executor executed is in the line
-executions_in_line : (older : List Entry) (s : Site) (id : CommandId) → IsIn id (executions older s) → IsIn id (line older)
+executions_in_line : (older : List Entry) (s : Site) (id : CommandId) → IsIn id (executions older s)
+    → IsIn id (line older)
 executions_in_line [] s id there = absurd there
 executions_in_line (e ∷ older) s id there =
     cond_both (same_name e.actor (Executor s)) (at_end (executions older s) (executed_by e.event)) (executions older s)
@@ -42,23 +44,24 @@ executions_in_line (e ∷ older) s id there =
     (λ t. by_executor (executed_by e.event) (executions_in_line older s id))
     (λ f k. line_keeps id (line older) (executed_by e.event) (executions_in_line older s id k)) there
   where
-    by_executor : (o : Option CommandId) → (IsIn id (executions older s) → IsIn id (line older)) → IsIn id (at_end (executions older s) o)
-        → IsIn id (once_at_end (line older) o)
+    by_executor : (o : Option CommandId) → (IsIn id (executions older s) → IsIn id (line older))
+        → IsIn id (at_end (executions older s) o) → IsIn id (once_at_end (line older) o)
     by_executor None before k = before k
     by_executor (Some x) before k = elim (in_push_cases (executions older s) x id k) [
       | inl old ↦ line_keeps id (line older) (Some x) (before old)
-      | inr new ↦ subst (λ (i : CommandId). IsIn id (once_at_end (line older) (Some i))) new (line_takes id (line older))
+      | inr new ↦ subst (λ (i : CommandId). IsIn id (once_at_end (line older) (Some i))) new
+          (line_takes id (line older))
     ]
 
--- the command of an execution is in the line
+-- so the command of an execution is
 pub executed_in_line : (script : Script) (older : List Entry) (id : CommandId) (p : ℕ) (answers : List Answer)
     → IsExecuted script older id p answers → IsIn id (line older)
-executed_in_line script older id p answers x =
-    executions_in_line older x.site id (prefix_in (x.before ++ id ∷ []) (executions older x.site) id x.prefix (in_push x.before id))
+executed_in_line script older id p answers x = executions_in_line older x.site id
+    (prefix_in (x.before ++ id ∷ []) (executions older x.site) id x.prefix (in_push x.before id))
 
 -- what is in the line was submitted
-pub line_submitted : (script : Script) → IsAccepted script → (older : List Entry) (id : CommandId) → IsFreeHistory script older
-    → IsIn id (line older) → IsSubmitted older id
+pub line_submitted : (script : Script) → IsAccepted script → (older : List Entry) (id : CommandId)
+    → IsFreeHistory script older → IsIn id (line older) → IsSubmitted older id
 line_submitted script accepted [] id history there = absurd there
 line_submitted script accepted (e ∷ older) id history there =
     or_right (is_submission_of id e) (list_any (is_submission_of id) older)
@@ -72,7 +75,8 @@ line_submitted script accepted (e ∷ older) id history there =
         (λ t. before)
         (λ f k. elim (in_push_cases (line older) x id k) [
           | inl old ↦ before old
-          | inr new ↦ subst (IsSubmitted older) (sym new) (execution_submitted script accepted older e.actor x history.0 may)
+          | inr new ↦
+              subst (IsSubmitted older) (sym new) (execution_submitted script accepted older e.actor x history.0 may)
         ]) there
     by_event (OfItself _) may before there = before there
     by_event (Deliver entry place) may before there = before there
