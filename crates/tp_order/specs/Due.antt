@@ -1,43 +1,46 @@
--- Who owns the numbers of a process, and which commands are due at a partition, in a whole journal.
-use Rattle.std.specs.Prelude.{nat_le, ℕ, zero, suc, ◌≡◌, ◌≤◌, ◌⊎◌, Bool, true, false, cond, List, [], ◌∷◌, Option, Some, None}
+-- Of a whole journal: which commands are due at a partition, by which keys, and who owns the numbers of its processes.
+-- Of a part of it: which command comes next at a site.
+use Rattle.std.specs.Prelude.{◌≡◌, ℕ, true, List, Option}
 use Rattle.tp_base.specs.Lists.{IsIn}
-use Rattle.tp_base.specs.Names.{same_id}
+use Rattle.tp_base.specs.Names.{key_lt}
 use Rattle.tp_base.specs.declared.names.ActorName.TheVariants.{Process}
 use Rattle.tp_base.specs.declared.names.CommandId.{CommandId}
 use Rattle.tp_base.specs.declared.names.Key.{Key}
+use Rattle.tp_base.specs.declared.names.Site.{Site}
 use Rattle.tp_rules.specs.Addresses.{site}
-use Rattle.tp_rules.specs.Journal.{acts}
-use Rattle.tp_rules.specs.Outcome.{Commit, commits, command_of, accesses, key_in}
-use Rattle.tp_rules.specs.Sheet.{Sheet, Proposed, ring_setting}
+use Rattle.tp_rules.specs.Journal.{acts, IsSent}
+use Rattle.tp_rules.specs.Outcome.{Commit, commits, executions, command_of, accesses, key_in}
+use Rattle.tp_rules.specs.Sheet.{ring_setting}
 use Rattle.tp_rules.specs.declared.event.Entry.{Entry}
 use Rattle.tp_script.specs.declared.script.Script.{Script}
-use Rattle.tp_topology.specs.Counting.{count_up_to}
-use Rattle.tp_topology.specs.Shape.{majority_size}
 use Rattle.tp_topology.specs.Stability.{attached_to}
 use Rattle.tp_wire.specs.declared.message.Message.{Message}
 use Rattle.tp_rules.specs.Process as process
 
--- the command that a process's number is attached to in the end, if any
-abbrev pub owner_at : Script → List Entry → ℕ → ℕ → ℕ → Option CommandId
-owner_at script whole p rank n =
-    attached_to (process.state_after (ring_setting script.topology) (site p rank) (acts whole (Process (site p rank)))).attached n
-
-abbrev pub is_owner : CommandId → Option CommandId → Bool
-is_owner id None = false
-is_owner id (Some owner) = same_id owner id
-
--- some number of 1 to n is attached to the command
-abbrev pub has_promise : (ℕ → Option CommandId) → CommandId → ℕ → Bool
-has_promise owner id zero = false
-has_promise owner id (suc n) = cond (is_owner id (owner (suc n))) true (has_promise owner id n)
-
 -- a command that some process committed, and that accesses the partition
 pub record IsDue (script : Script) (whole : List Entry) (p : ℕ) (id : CommandId) : Type 0 where
   pub commit : Commit
-  pub there : IsIn commit (commits whole)
-  pub same : commit.id ≡ id
+  pub is_committed : IsIn commit (commits whole)
+  pub names_it : commit.id ≡ id
   pub accesses : accesses script p (command_of script id) ≡ true
 
-abbrev pub key : List Entry → CommandId → Key
-key whole id = key_in (commits whole) id
+-- a command's key with its final stamp
+abbrev pub final_key : List Entry → CommandId → Key
+final_key whole id = key_in (commits whole) id
 
+-- the command that a number of a process is attached to in the end, if any
+abbrev pub final_owner : Script → List Entry → ℕ → ℕ → ℕ → Option CommandId
+final_owner script whole p rank n =
+    let setting = ring_setting script.topology in
+    attached_to (process.state_after setting (site p rank) (acts whole (Process (site p rank)))).attached n
+
+-- a part of a journal: whatever was sent in it was sent in the whole
+abbrev pub IsWithin : List Entry → List Entry → Type 0
+IsWithin older whole = (m : Message) → IsSent older m → IsSent whole m
+
+-- a command that comes next at a site: it is due and new there, and each due command with a smaller key is executed
+pub record IsNext (script : Script) (whole older : List Entry) (s : Site) (id : CommandId) : Type 0 where
+  pub is_due : IsDue script whole s.partition.0 id
+  pub is_new : IsIn id (executions older s) → ⊥
+  pub smaller_due_are_executed : (d : CommandId) → IsDue script whole s.partition.0 d →
+      key_lt (final_key whole d) (final_key whole id) ≡ true → IsIn d (executions older s)
