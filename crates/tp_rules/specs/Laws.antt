@@ -7,7 +7,7 @@ use Rattle.tp_base.specs.declared.names.PartitionId.{PartitionId}
 use Rattle.tp_base.specs.declared.names.Site.{Site}
 use Rattle.tp_ops.specs.declared.operation.Answer.{Answer}
 use Rattle.tp_rules.specs.Addresses.{is_site_of}
-use Rattle.tp_rules.specs.Outcome.{Commit, commits, executions, line, share, precedes, reply_to, command_of, ops_of, sequential_answers, answers_on, key_in}
+use Rattle.tp_rules.specs.Outcome.{Commit, commits, executions, line, share, precedes, reply_to, command_of, ops_of, sequential_answers, answers_on, key_in, those_before}
 use Rattle.tp_rules.specs.declared.event.Entry.{Entry}
 use Rattle.tp_script.specs.declared.script.Script.{Script}
 use Rattle.tp_wire.specs.declared.message.Body.TheVariants.{MResult}
@@ -32,15 +32,10 @@ pub record IsShareOrdered (script : Script) (older : List Entry) (p : ℕ) : Typ
 unfoldable pub LineOrders : Script → List Entry → Type 0
 LineOrders script older = (p : ℕ) → IsShareOrdered script older p
 
--- one stands before the other in a list
-abbrev pub StandsBefore : CommandId → CommandId → List CommandId → Type 0
-StandsBefore c d ids = (before : List CommandId) × (rest : List CommandId) ×
-    (ids ≡ before ++ d ∷ rest) × (has same_id c before ≡ true)
-
 -- what was answered before another was submitted stands before it in the line
 unfoldable pub LineKeepsRealTime : Script → List Entry → Type 0
 LineKeepsRealTime script older = (c d : CommandId) → precedes script older c d ≡ true →
-    has same_id d (line older) ≡ true → StandsBefore c d (line older)
+    has same_id d (line older) ≡ true → has same_id c (those_before d (line older)) ≡ true
 
 -- each answered command is in the line, and its reply is that of one sequential store executing the line
 unfoldable pub RepliesAreSequential : Script → List Entry → Type 0
