@@ -5,8 +5,6 @@ mod access;
 mod answers;
 mod gathered;
 mod sheet;
-#[cfg(test)]
-mod tests;
 
 pub use access::accesses;
 pub use sheet::Sheet;
