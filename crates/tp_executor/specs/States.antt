@@ -1,5 +1,5 @@
 -- Where an executor stands: its fields against the state of the rules.
-use Rattle.std.specs.Prelude.{◌≡◌, false, List, map}
+use Rattle.std.specs.Prelude.{◌≡◌, List, map}
 use Rattle.tp_base.specs.Lists.{Each}
 use Rattle.tp_mstable.specs.Declarations.{Calls as Declarations, Keeps}
 use Rattle.tp_promise.specs.Books.{IsBook}
@@ -30,7 +30,3 @@ pub record IsState (e : Executor) (state : ExecutorState) : Type 0 where
 
 abbrev pub Stands : Executor → List Act → Type 0
 Stands e acts = IsState e (state_after e.topology e.site acts)
-
--- it is not spent, and stands for some acts
-abbrev pub IsUsable : Executor → Type 0
-IsUsable e = (e.spent ≡ false) × ((acts : List Act) × Stands e acts)

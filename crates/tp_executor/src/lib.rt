@@ -6,8 +6,6 @@ mod addressed;
 mod declaration;
 mod executor;
 mod others;
-#[cfg(test)]
-mod tests;
 mod why;
 
 pub use executor::Executor;
