@@ -5,7 +5,5 @@
 mod answered;
 mod session;
 mod submissions;
-#[cfg(test)]
-mod tests;
 
 pub use session::Session;
