@@ -11,6 +11,3 @@ pub use any_actor::AnyActor;
 pub use finished::{Cause, Finished};
 pub use plain::tempo_plain;
 pub use text::INPUT_LIMIT;
-
-#[cfg(test)]
-mod tests;
