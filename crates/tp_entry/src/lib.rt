@@ -6,8 +6,6 @@ mod entry;
 mod fault;
 mod printer;
 mod reader;
-#[cfg(test)]
-mod tests;
 mod words;
 
 pub use fault::{JournalCause, JournalError, JournalFault};
