@@ -1,16 +1,15 @@
 //! A command on two partitions: each decides its own stamp, and the final one is the greatest.
 
 use crate::cue::Cue;
-use crate::stage::{Stage, of_two_partitions};
-use std::alloc::Global;
-use std::process::Abort;
+use crate::stage::of_two_partitions;
 use std::test::Fail;
 
-/// The home has decided the stamp of the first partition at once.
-fn decided(rt: &impl Abort, alloc: Global) -> Result<Stage, Fail> {
-    let mut home = of_two_partitions(alloc, 1)?;
-    home.tell(
-        rt,
+/// The home decides the stamp of the first partition at once, and tells it to a rank that recovers.
+/// No final stamp is seen until the second partition's comes.
+#[test]
+fn the_greatest_stamp_is_the_final_one(rt: HostRuntime) -> Result<(), Fail> {
+    of_two_partitions(rt.alloc(), 1)?.tell(
+        &rt,
         &[
             (
                 Cue::MSubmit,
@@ -20,28 +19,10 @@ fn decided(rt: &impl Abort, alloc: Global) -> Result<Stage, Fail> {
                 Cue::MProposeAck { from: 2, stamp: 1 },
                 "MCommit partition 1 stamp 1 to p1.2 p1.3 p2.1 p2.2 p2.3",
             ),
-        ],
-    )?;
-    Ok(home)
-}
-
-/// No final stamp is seen, since the second partition's is missing.
-#[test]
-fn recovered_after_a_fast_decision(rt: HostRuntime) -> Result<(), Fail> {
-    decided(&rt, rt.alloc())?.tell(
-        &rt,
-        &[(
-            Cue::MRec { from: 3, ballot: 6 },
-            "MCommit partition 1 stamp 1 to p1.3",
-        )],
-    )
-}
-
-#[test]
-fn the_greatest_stamp_is_the_final_one(rt: HostRuntime) -> Result<(), Fail> {
-    decided(&rt, rt.alloc())?.tell(
-        &rt,
-        &[
+            (
+                Cue::MRec { from: 3, ballot: 6 },
+                "MCommit partition 1 stamp 1 to p1.3",
+            ),
             (
                 Cue::MCommit {
                     partition: 2,

@@ -5,23 +5,7 @@ use crate::stage::{of_five, of_three};
 use std::test::Fail;
 
 #[test]
-fn announced_once(rt: HostRuntime) -> Result<(), Fail> {
-    of_three(rt.alloc(), 2)?.tell(
-        &rt,
-        &[
-            (Cue::Announce, ""),
-            (
-                Cue::MPropose { from: 1, floor: 5 },
-                "MProposeAck stamp 5 to p1.1; clock 5",
-            ),
-            (Cue::Announce, "MPromises lo 0 hi 5 1.1@5 to e1.1 e1.2 e1.3"),
-            (Cue::Announce, ""),
-        ],
-    )
-}
-
-#[test]
-fn announced_from_the_last_one_on(rt: HostRuntime) -> Result<(), Fail> {
+fn announced_once_from_the_last_one_on(rt: HostRuntime) -> Result<(), Fail> {
     of_five(rt.alloc(), 2)?.tell(
         &rt,
         &[
@@ -33,6 +17,7 @@ fn announced_from_the_last_one_on(rt: HostRuntime) -> Result<(), Fail> {
                 Cue::Announce,
                 "MPromises lo 0 hi 5 1.1@5 to e1.1 e1.2 e1.3 e1.4 e1.5",
             ),
+            (Cue::Announce, ""),
             (Cue::MBump { stamp: 7 }, "clock 7"),
             (Cue::MBump { stamp: 6 }, ""),
             (
@@ -43,7 +28,17 @@ fn announced_from_the_last_one_on(rt: HostRuntime) -> Result<(), Fail> {
     )
 }
 
+/// Not after a bump from outside the shape either, and there is nothing to recover.
 #[test]
-fn a_bump_from_outside_the_shape(rt: HostRuntime) -> Result<(), Fail> {
-    of_three(rt.alloc(), 2)?.tell(&rt, &[(Cue::MBump { stamp: 7 }, "")])
+fn nothing_to_announce_at_first(rt: HostRuntime) -> Result<(), Fail> {
+    of_three(rt.alloc(), 2)?.tell(
+        &rt,
+        &[
+            (Cue::Announce, ""),
+            (Cue::MBump { stamp: 7 }, ""),
+            (Cue::Announce, ""),
+            (Cue::Recover, ""),
+            (Cue::Crash, ""),
+        ],
+    )
 }

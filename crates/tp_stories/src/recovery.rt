@@ -1,7 +1,7 @@
 //! A command is recovered: what the one that recovers asks and chooses, and what it is told.
 
 use crate::cue::Cue;
-use crate::stage::{Stage, of_three};
+use crate::stage::{Stage, of_five, of_three};
 use std::alloc::Global;
 use std::process::Abort;
 use std::test::Fail;
@@ -34,27 +34,17 @@ fn answer(from: u8, stamp: u64, made: Made, ballot: u64) -> Cue {
     }
 }
 
-/// It has put 2 to the vote: of the two answers that of the fast quorum counts.
-fn putting(rt: &impl Abort, alloc: Global) -> Result<Stage, Fail> {
-    let mut second = recovering(rt, alloc)?;
-    second.tell(
-        rt,
+/// It puts 2 to the vote: of the two answers that of the fast quorum counts.
+#[test]
+fn decided_by_two_votes(rt: HostRuntime) -> Result<(), Fail> {
+    recovering(&rt, rt.alloc())?.tell(
+        &rt,
         &[
             (answer(2, 2, Made::Proposal, 5), ""),
             (
                 answer(3, 7, Made::Recovery, 5),
                 "MConsensus stamp 2 ballot 5 to p1.1 p1.2 p1.3",
             ),
-        ],
-    )?;
-    Ok(second)
-}
-
-#[test]
-fn decided_by_two_votes(rt: HostRuntime) -> Result<(), Fail> {
-    putting(&rt, rt.alloc())?.tell(
-        &rt,
-        &[
             (answer(1, 9, Made::Proposal, 5), ""),
             (Cue::MConsensusAck { from: 1, ballot: 5 }, ""),
             (Cue::MConsensusAck { from: 3, ballot: 1 }, ""),
@@ -205,7 +195,34 @@ fn a_recovery_ends_the_fast_path(rt: HostRuntime) -> Result<(), Fail> {
     )
 }
 
+/// Rank 3 of five recovers. Of three answers that at the greatest accepted ballot counts.
 #[test]
-fn nothing_to_recover(rt: HostRuntime) -> Result<(), Fail> {
-    of_three(rt.alloc(), 2)?.tell(&rt, &[(Cue::Recover, ""), (Cue::Crash, "")])
+fn what_was_accepted_last_is_put_to_the_vote(rt: HostRuntime) -> Result<(), Fail> {
+    of_five(rt.alloc(), 3)?.tell(
+        &rt,
+        &[
+            (
+                Cue::MPropose { from: 1, floor: 2 },
+                "MProposeAck stamp 2 to p1.1; clock 2",
+            ),
+            (Cue::Recover, "MRec ballot 8 to p1.1 p1.2 p1.3 p1.4 p1.5"),
+            (accepted(2, 3, 7), ""),
+            (accepted(3, 8, 6), ""),
+            (
+                answer(5, 7, Made::Recovery, 8),
+                "MConsensus stamp 3 ballot 8 to p1.1 p1.2 p1.3 p1.4 p1.5",
+            ),
+        ],
+    )
+}
+
+/// A rank's answer at ballot 8, with its stamp accepted at a ballot.
+fn accepted(from: u8, stamp: u64, accepted: u64) -> Cue {
+    Cue::MRecAck {
+        from,
+        stamp,
+        made: Made::Proposal,
+        accepted,
+        ballot: 8,
+    }
 }
