@@ -5,12 +5,15 @@ use std::alloc::Global;
 use std::process::ExitCode;
 use std::{env, io};
 use tp_outside::{StdSink, StdSource};
-use tp_run::tempo_plain;
+use tp_run::{Cause, tempo_plain};
 
 fn main(rt: HostRuntime) -> ExitCode {
-    let Some(words) = words(&rt, rt.alloc()) else {
-        let _ = eprintln!(rt; "tempo: words");
-        return ExitCode::from(2);
+    let words = match words(&rt, rt.alloc()) {
+        Ok(words) => words,
+        Err(cause) => {
+            let _ = eprintln!(rt; "tempo: {cause}");
+            return ExitCode::from(cause.status());
+        }
     };
     let mut input = StdSource::new(rt.reader());
     let mut out = StdSink::new(io::writer(&rt));
@@ -21,11 +24,22 @@ fn main(rt: HostRuntime) -> ExitCode {
     ExitCode::from(finished.status)
 }
 
-// The words behind the program's name. There are none where one of them isn't text.
-fn words(rt: &HostRuntime, alloc: Global) -> Option<Vec<String>> {
+// The words behind the program's name. They are refused where one of them isn't text.
+fn words(rt: &HostRuntime, alloc: Global) -> Result<Vec<String>, Cause> {
+    let args = match env::args(rt) {
+        Ok(args) => args,
+        Err(error) => {
+            return Err(match error.kind() {
+                io::ErrorKind::OutOfMemory => Cause::Memory,
+                _ => Cause::Words,
+            });
+        }
+    };
     let mut words = Vec::new(alloc);
-    for word in env::args(rt).ok()?.skip(1) {
-        words.push(word).ok()?;
+    for word in args.skip(1) {
+        if words.push(word).is_err() {
+            return Err(Cause::Memory);
+        }
     }
-    Some(words)
+    Ok(words)
 }
