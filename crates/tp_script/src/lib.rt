@@ -12,8 +12,6 @@ mod printer;
 mod reader;
 mod script;
 mod setup;
-#[cfg(test)]
-mod tests;
 mod words;
 
 pub use fault::{ScriptCause, ScriptError, ScriptFault};
