@@ -7,5 +7,4 @@ pub mod Messages
 pub mod Named
 pub mod Numbered
 pub mod OneByte
-mod Samples
 pub mod WireLaws

@@ -8,8 +8,6 @@ mod fault;
 mod fields;
 mod message;
 mod names;
-#[cfg(test)]
-mod tests;
 mod writing;
 
 pub use codec::{decode, encode};
