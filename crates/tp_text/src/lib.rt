@@ -5,8 +5,6 @@ mod cut;
 mod hexadecimal;
 mod lines;
 mod numbers;
-#[cfg(test)]
-mod tests;
 mod words;
 mod written;
 
