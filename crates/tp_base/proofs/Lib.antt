@@ -1,5 +1,4 @@
 pub mod BigEndian
-pub mod CountUp
 pub mod Each
 pub mod Ends
 pub mod Members

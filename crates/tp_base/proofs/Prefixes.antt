@@ -1,17 +1,11 @@
 -- Lists that go on where others end.
-use Rattle.std.proofs.Common.{◌≡◌, ℕ, List, [], ◌∷◌, ◌++◌, Some, refl, sym, ap, subst, ◌∙◌, append_assoc}
-use Rattle.std.specs.Prelude.{slice_get}
+use Rattle.std.proofs.Common.{◌≡◌, List, [], ◌∷◌, ◌++◌, sym, ap, subst, ◌∙◌, append_assoc}
 use Rattle.std.proofs.lemmas.List.{append-nil}
-use Rattle.std.proofs.lemmas.Option.{slice_get_within}
 use Rattle.tp_base.specs.Lists.{IsIn, IsPrefixOf}
-use Rattle.tp_base.proofs.Ends.{slice_get_left}
 use Rattle.tp_base.proofs.Members.{in_left}
 
 pub prefix_self : {X : Type 0} (xs : List X) → IsPrefixOf xs xs
 prefix_self xs = ([], append-nil xs)
-
-pub prefix_nil : {X : Type 0} (xs : List X) → IsPrefixOf [] xs
-prefix_nil xs = (xs, refl)
 
 -- the longer list may grow
 pub prefix_more : {X : Type 0} (xs ys zs : List X) → IsPrefixOf xs ys → IsPrefixOf xs (ys ++ zs)
@@ -26,6 +20,3 @@ prefix_then xs ys zs h k = subst (IsPrefixOf xs) k.1 (prefix_more xs ys k.0 h)
 
 pub prefix_in : {X : Type 0} (xs ys : List X) (x : X) → IsPrefixOf xs ys → IsIn x xs → IsIn x ys
 prefix_in xs ys x h k = subst (IsIn x) h.1 (in_left xs h.0 x k)
-
-pub prefix_get : {X : Type 0} (xs ys : List X) (i : ℕ) (x : X) → IsPrefixOf xs ys → slice_get xs i ≡ Some x → slice_get ys i ≡ Some x
-prefix_get xs ys i x h e = ap (λ (l : List _). slice_get l i) (sym h.1) ∙ slice_get_left xs h.0 i (slice_get_within xs i x e) ∙ e

@@ -1,4 +1,4 @@
-use Rattle.std.specs.Prelude.{◌≡◌, ℕ, zero, suc, Bool, true, ◌⊎◌, List, [], ◌∷◌, ◌++◌}
+use Rattle.std.specs.Prelude.{◌≡◌, Bool, true, ◌⊎◌, List, [], ◌∷◌, ◌++◌}
 use Rattle.std.specs.List.{list_any}
 
 -- x is an element of the list
@@ -23,8 +23,3 @@ Ascends before (x ∷ xs) = Each (λ y. before x y ≡ true) xs × Ascends befor
 -- ys goes on where xs ends
 abbrev pub IsPrefixOf : {X : Type 0} → List X → List X → Type 0
 IsPrefixOf {X} xs ys = (rest : List X) × (xs ++ rest ≡ ys)
-
--- n numbers in a row, from the first on
-unfoldable pub count_up : ℕ → ℕ → List ℕ
-count_up first zero = []
-count_up first (suc n) = first ∷ count_up (suc first) n

@@ -6,8 +6,6 @@ mod names;
 mod partition;
 mod put;
 mod sequence;
-#[cfg(test)]
-mod tests;
 
 pub use cut::{Cut, CutFault};
 pub use names::{
