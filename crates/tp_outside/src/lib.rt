@@ -15,6 +15,3 @@ pub use source::{Failed, Source};
 pub use standard::{StdSink, StdSource};
 pub use sure::{SureSink, SureSource};
 pub use whole::{ReadError, read_to_limit, write_all};
-
-#[cfg(test)]
-mod tests;
