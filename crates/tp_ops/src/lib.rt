@@ -5,8 +5,6 @@ mod access;
 mod command;
 mod operation;
 mod parts;
-#[cfg(test)]
-mod tests;
 
 pub use access::{accesses, count_on, part};
 pub use command::Command;
