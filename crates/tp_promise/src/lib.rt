@@ -5,7 +5,5 @@ mod book;
 mod page;
 mod pairs;
 mod ranges;
-#[cfg(test)]
-mod tests;
 
 pub use book::Book;
