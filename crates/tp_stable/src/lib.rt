@@ -2,7 +2,5 @@
 #![tactic(auto)]
 
 mod stability;
-#[cfg(test)]
-mod tests;
 
 pub use stability::{is_stable, threshold};
