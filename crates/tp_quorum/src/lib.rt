@@ -4,8 +4,6 @@
 mod choice;
 mod gather;
 mod known;
-#[cfg(test)]
-mod tests;
 
 pub use choice::FastChoice;
 pub use gather::Gather;
