@@ -5,8 +5,6 @@
 mod acceptor;
 mod ballot;
 mod proposer;
-#[cfg(test)]
-mod tests;
 
 pub use acceptor::Acceptor;
 pub use ballot::{next_ballot, owner};
