@@ -3,8 +3,6 @@
 
 mod answer;
 mod recovery;
-#[cfg(test)]
-mod tests;
 
 pub use answer::RecoveryAnswer;
 pub use recovery::choose;
