@@ -2,7 +2,5 @@
 #![tactic(auto)]
 
 mod declared;
-#[cfg(test)]
-mod tests;
 
 pub use declared::Declared;
