@@ -173,9 +173,8 @@ module _ (script : Script) (accepted : IsAccepted script) (id : CommandId) (c : 
         let yes : b ≡ true =
         sym e ∙ and_from (is_name_of shape from) (is_body_at shape 0 (MResult d q answers)) accepts.named
         (is_between-from q.0 shape.partitions (omega (arith, here, within.0), omega (arith, here, within.1))) in
-        ap (λ (t : Bool). kept
-        (cond {A = session.Moved} t (session.on_result shape client d q.0 answers state) (state, [])).0)
-        yes
+        let moved : session.Moved = session.on_result shape client d q.0 answers state in
+        ap (λ (t : Bool). kept (cond {A = session.Moved} t moved (state, [])).0) yes
         ∙ ap (λ (i : CommandId). kept (session.on_result shape client i q.0 answers state).0) same
         ∙ ap (λ (k : ℕ). kept (session.on_result shape client id k answers state).0) here
         ∙ own_result answers state accepts.asked accepts.many places (kept state) refl
