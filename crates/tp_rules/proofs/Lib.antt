@@ -1,21 +1,3 @@
-mod FiveReplicas
-mod KeptCommand
-pub mod OnePut
-mod OnePutAccepted
-mod OnePutIllegal
-mod OnePutLegal
-mod OnePutOutcome
-mod OnePutOutputs
-mod OnePutPicked
-mod Operations
-mod Quorums
-mod Recoveries
-mod RefusalsOfExecutor
-mod RefusalsOfProcess
-mod RefusalsOfSession
-pub mod RunWords
-mod SameSheet
-mod TwoPartitions
 pub mod ActsMore
 pub mod CarriedCommands
 pub mod DeliveriesLeft

@@ -1,8 +1,8 @@
 -- Each entry of the run of one put sends what the rules say.
 use Rattle.std.proofs.Common.{◌≡◌, [], refl}
-use Rattle.tp_rules.proofs.OnePut as run
-use Rattle.tp_rules.proofs.OnePut.{one_put}
-use Rattle.tp_rules.proofs.RunWords.{process_at, executor_at, session_of, id, the_rules}
+use Rattle.tp_histories.proofs.OnePut.Journal as run
+use Rattle.tp_histories.proofs.OnePut.Journal.{one_put}
+use Rattle.tp_histories.proofs.Words.{process_at, executor_at, session_of, id, the_rules}
 use Rattle.tp_rules.specs.Runs.{outputs_in}
 use Rattle.tp_rules.specs.declared.event.Event.TheVariants.{Deliver, Inner as OfItself}
 use Rattle.tp_rules.specs.declared.event.Inner.TheVariants.{Submit, Announce, Execute}

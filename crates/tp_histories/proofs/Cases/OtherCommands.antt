@@ -3,7 +3,7 @@ use Rattle.std.proofs.Common.{◌≡◌, ℕ, [], ◌∷◌, Some, refl}
 use Rattle.tp_base.specs.declared.names.Made.TheVariants.{Proposal, Recovery}
 use Rattle.tp_ops.specs.declared.command.Command.{Command}
 use Rattle.tp_ops.specs.declared.operation.Op.TheVariants.{Put}
-use Rattle.tp_stories.proofs.Words.{process_at, stamp, first_of, command, the_rules}
+use Rattle.tp_histories.proofs.Words.{process_at, stamp, id, command, the_rules}
 use Rattle.tp_rules.specs.Acts.{Act, Took, Did, Identity, ProcessAt}
 use Rattle.tp_rules.specs.Addresses.{message, site}
 use Rattle.tp_rules.specs.Process.{state_after}
@@ -18,11 +18,11 @@ two = record { partitions = 2; replicas = 3; failures = 1 }
 
 -- put b 1 on partition 1, home rank 1
 abbrev put_b : Command
-put_b = command 1 (Put (98 ∷ []) (49 ∷ []) ∷ [])
+put_b = command (id 1 1) 1 (Put (98 ∷ []) (49 ∷ []) ∷ [])
 
 -- put b 1 and put a 1 on both partitions under the same identifier, home rank 2
 abbrev put_both : Command
-put_both = command 2 (Put (98 ∷ []) (49 ∷ []) ∷ Put (97 ∷ []) (49 ∷ []) ∷ [])
+put_both = command (id 1 1) 2 (Put (98 ∷ []) (49 ∷ []) ∷ Put (97 ∷ []) (49 ∷ []) ∷ [])
 
 abbrev at_3 : Identity
 at_3 = ProcessAt two (site 1 3)
@@ -35,21 +35,21 @@ recovery = Took (message (process_at 1 1) (process_at 1 3) (MRec put_b 4))
 
 -- proposed late, with a bump for the other partition of the kept command
 answered_late : outputs_of at_3 (payload ∷ []) recovery ≡
-    message (process_at 1 3) (process_at 1 1) (MRecAck (first_of 1) (stamp 1) Recovery 0 4) ∷
-    message (process_at 1 3) (process_at 2 3) (MBump (first_of 1) (stamp 1)) ∷
+    message (process_at 1 3) (process_at 1 1) (MRecAck (id 1 1) (stamp 1) Recovery 0 4) ∷
+    message (process_at 1 3) (process_at 2 3) (MBump (id 1 1) (stamp 1)) ∷
     []
 unfolding the_rules
 answered_late = refl
 
-first_kept : ((state_after (ring_setting two) (site 1 3) (recovery ∷ payload ∷ [])).sheets (first_of 1)).command ≡ Some put_both
+first_kept : ((state_after (ring_setting two) (site 1 3) (recovery ∷ payload ∷ [])).sheets (id 1 1)).command ≡ Some put_both
 unfolding the_rules
 first_kept = refl
 
 abbrev answer : ℕ → ℕ → Act
-answer from t = Took (message (process_at 1 from) (process_at 1 3) (MRecAck (first_of 1) (stamp t) Proposal 0 6))
+answer from t = Took (message (process_at 1 from) (process_at 1 3) (MRecAck (id 1 1) (stamp t) Proposal 0 6))
 
 -- what is put to the vote is the kept command, and the choice is by the kept command's home
-kept_put : outputs_of at_3 (answer 2 5 ∷ Did (Recover (first_of 1)) ∷ payload ∷ []) (answer 1 7) ≡
+kept_put : outputs_of at_3 (answer 2 5 ∷ Did (Recover (id 1 1)) ∷ payload ∷ []) (answer 1 7) ≡
     message (process_at 1 3) (process_at 1 1) (MConsensus put_both (stamp 7) 6) ∷
     message (process_at 1 3) (process_at 1 2) (MConsensus put_both (stamp 7) 6) ∷
     message (process_at 1 3) (process_at 1 3) (MConsensus put_both (stamp 7) 6) ∷

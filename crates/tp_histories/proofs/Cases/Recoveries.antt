@@ -2,10 +2,9 @@
 use Rattle.std.proofs.Common.{◌≡◌, ℕ, ◌-◌, ◌^◌, List, [], ◌∷◌, refl}
 use Rattle.tp_base.specs.declared.names.Made.{Made}
 use Rattle.tp_base.specs.declared.names.Made.TheVariants.{Proposal, Recovery}
-use Rattle.tp_choice.specs.Choosing.{recovery_choice}
 use Rattle.tp_ops.specs.declared.command.Command.{Command}
 use Rattle.tp_ops.specs.declared.operation.Op.TheVariants.{Put}
-use Rattle.tp_rules.proofs.RunWords.{process_at, executor_at, session_of, partition, stamp, id, pair, command, the_rules}
+use Rattle.tp_histories.proofs.Words.{process_at, executor_at, session_of, partition, stamp, id, pair, command, the_rules}
 use Rattle.tp_rules.specs.Acts.{Act, Took, Did, Identity, ProcessAt}
 use Rattle.tp_rules.specs.Addresses.{message, site}
 use Rattle.tp_rules.specs.Process.{Moved, ProcessState, react, state_after}
@@ -116,7 +115,7 @@ second_puts : outputs_of (at_rank 2) (answer 2 2 2 Proposal 0 5 ∷ recovering) 
     message (process_at 1 2) (process_at 1 2) (MConsensus put_b (stamp 2) 5) ∷
     message (process_at 1 2) (process_at 1 3) (MConsensus put_b (stamp 2) 5) ∷
     []
-unfolding the_rules recovery_choice
+unfolding the_rules
 second_puts = refl
 
 -- a stamp that was accepted comes first
@@ -125,7 +124,7 @@ accepted_puts : outputs_of (at_rank 2) (answer 2 2 2 Proposal 0 5 ∷ recovering
     message (process_at 1 2) (process_at 1 2) (MConsensus put_b (stamp 4) 5) ∷
     message (process_at 1 2) (process_at 1 3) (MConsensus put_b (stamp 4) 5) ∷
     []
-unfolding the_rules recovery_choice
+unfolding the_rules
 accepted_puts = refl
 
 -- what changes nothing and sends nothing
@@ -167,7 +166,7 @@ unfolding the_rules
 answer_again = refl
 
 answer_after_the_put : IsIgnored 2 (answer 3 2 1 Proposal 0 5 ∷ answer 2 2 2 Proposal 0 5 ∷ recovering) (answer 1 2 9 Proposal 0 5)
-unfolding the_rules recovery_choice
+unfolding the_rules
 answer_after_the_put = refl
 
 answer_of_decided : IsIgnored 2 (commit 2 ∷ recovering) (answer 3 2 1 Proposal 0 5)

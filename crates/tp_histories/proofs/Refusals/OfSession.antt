@@ -5,7 +5,7 @@ use Rattle.tp_ops.specs.declared.operation.Answer.{Answer}
 use Rattle.tp_ops.specs.declared.operation.Answer.TheVariants.{Missing}
 use Rattle.tp_ops.specs.declared.operation.Op.TheVariants.{Put}
 use Rattle.tp_base.specs.declared.names.CommandId.{CommandId}
-use Rattle.tp_rules.proofs.RunWords.{executor_at, session_of, partition, id, command, the_rules}
+use Rattle.tp_histories.proofs.Words.{executor_at, session_of, partition, id, command, the_rules}
 use Rattle.tp_rules.specs.Acts.{Act, Took, Did, Client, Identity, SessionOf}
 use Rattle.tp_rules.specs.Addresses.{message}
 use Rattle.tp_rules.specs.Rules.{enabled}

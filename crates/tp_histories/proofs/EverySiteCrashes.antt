@@ -3,7 +3,7 @@ use Rattle.std.proofs.Common.{◌≡◌, ℕ, [], ◌∷◌, refl}
 use Rattle.std.specs.Prelude.{reverse}
 use Rattle.tp_ops.specs.declared.command.Command.{Command}
 use Rattle.tp_ops.specs.declared.operation.Op.TheVariants.{Put}
-use Rattle.tp_stories.proofs.Words.{process_at, session_of, command, the_rules}
+use Rattle.tp_histories.proofs.Words.{process_at, session_of, id, command, entry, the_plan}
 use Rattle.tp_rules.specs.Addresses.{message, site}
 use Rattle.tp_rules.specs.Pending.{item, pending}
 use Rattle.tp_rules.specs.declared.event.Entry.{Entry}
@@ -14,7 +14,7 @@ use Rattle.tp_script.specs.declared.script.Script.{Script}
 use Rattle.tp_wire.specs.declared.message.Body.TheVariants.{MSubmit}
 
 abbrev put_a : Command
-put_a = command 1 (Put (97 ∷ []) (49 ∷ []) ∷ [])
+put_a = command (id 1 1) 1 (Put (97 ∷ []) (49 ∷ []) ∷ [])
 
 abbrev script : Script
 script = record {
@@ -26,10 +26,10 @@ script = record {
 }
 
 abbrev crash : ℕ → Entry
-crash k = record { actor = process_at 1 k; event = OfItself Crash; outputs = [] }
+crash k = entry (process_at 1 k) (OfItself Crash) []
 
 abbrev submission : Entry
-submission = record { actor = session_of 1; event = OfItself (Submit 1); outputs = message (session_of 1) (process_at 1 1) (MSubmit put_a) ∷ [] }
+submission = entry (session_of 1) (OfItself (Submit 1)) (message (session_of 1) (process_at 1 1) (MSubmit put_a) ∷ [])
 
 -- at first the three lines and the submission are pending, in this order
 first : pending script [] ≡
@@ -38,14 +38,14 @@ first : pending script [] ≡
     item (process_at 1 3) (OfItself Crash) ∷
     item (session_of 1) (OfItself (Submit 1)) ∷
     []
-unfolding the_rules
+unfolding the_plan
 first = refl
 
 submits : pending script (reverse (crash 1 ∷ crash 2 ∷ crash 3 ∷ [])) ≡ item (session_of 1) (OfItself (Submit 1)) ∷ []
-unfolding the_rules
+unfolding the_plan
 submits = refl
 
 -- nobody takes the command
 quiet : pending script (reverse (crash 1 ∷ crash 2 ∷ crash 3 ∷ submission ∷ [])) ≡ []
-unfolding the_rules
+unfolding the_plan
 quiet = refl

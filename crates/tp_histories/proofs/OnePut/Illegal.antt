@@ -1,8 +1,8 @@
 -- Entries that may not follow the first entry of the run of one put, each for one cause.
 use Rattle.std.proofs.Common.{◌≡◌, ◌<◌, ℕ, true, false, List, [], ◌∷◌, Option, Some, None, refl, ap, arith}
-use Rattle.tp_rules.proofs.OnePut as run
-use Rattle.tp_rules.proofs.OnePut.{one_put, put_a}
-use Rattle.tp_rules.proofs.RunWords.{process_at, executor_at, session_of, stamp, id, entry, the_plan}
+use Rattle.tp_histories.proofs.OnePut.Journal as run
+use Rattle.tp_histories.proofs.OnePut.Journal.{one_put, put_a}
+use Rattle.tp_histories.proofs.Words.{process_at, executor_at, session_of, stamp, id, entry, the_plan}
 use Rattle.tp_rules.specs.Addresses.{message}
 use Rattle.tp_rules.specs.Runs.{IsLegal}
 use Rattle.tp_rules.specs.declared.event.Event.TheVariants.{Deliver, Inner as OfItself}

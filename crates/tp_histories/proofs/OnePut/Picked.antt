@@ -1,9 +1,9 @@
 -- Each entry of the run of one put is the first item that is pending, and at the end nothing is.
 use Rattle.std.proofs.Common.{[], refl}
-use Rattle.tp_rules.proofs.OnePut as run
-use Rattle.tp_rules.proofs.OnePut.{one_put, one_put_journal}
-use Rattle.tp_rules.proofs.OnePutOutputs as sends
-use Rattle.tp_rules.proofs.RunWords.{the_plan}
+use Rattle.tp_histories.proofs.OnePut.Journal as run
+use Rattle.tp_histories.proofs.OnePut.Journal.{one_put, one_put_journal}
+use Rattle.tp_histories.proofs.OnePut.Outputs as sends
+use Rattle.tp_histories.proofs.Words.{the_plan}
 use Rattle.tp_rules.specs.Pending.{IsPicked, IsPickedRun, IsQuiet}
 
 picked_1 : IsPicked one_put [] run.entry_1

@@ -4,8 +4,8 @@ use Rattle.std.specs.Prelude.{reverse}
 use Rattle.tp_base.proofs.Each.{each_in}
 use Rattle.tp_base.specs.Lists.{Each, IsIn}
 use Rattle.tp_ops.specs.declared.operation.Answer.TheVariants.{Missing}
-use Rattle.tp_rules.proofs.OnePut.{one_put, one_put_journal}
-use Rattle.tp_rules.proofs.RunWords.{id, the_rules}
+use Rattle.tp_histories.proofs.OnePut.Journal.{one_put, one_put_journal}
+use Rattle.tp_histories.proofs.Words.{id, the_rules}
 use Rattle.tp_rules.specs.Addresses.{site}
 use Rattle.tp_rules.specs.Laws.{CommitsAgree}
 use Rattle.tp_rules.specs.Outcome.{Commit, commits, executions, line, reply_to, sequential_answers}

@@ -1,9 +1,9 @@
 -- The run of one put is a run of its script.
 use Rattle.std.proofs.Common.{[], refl, lit<}
-use Rattle.tp_rules.proofs.OnePut as run
-use Rattle.tp_rules.proofs.OnePut.{one_put, one_put_journal}
-use Rattle.tp_rules.proofs.OnePutOutputs as sends
-use Rattle.tp_rules.proofs.RunWords.{the_plan}
+use Rattle.tp_histories.proofs.OnePut.Journal as run
+use Rattle.tp_histories.proofs.OnePut.Journal.{one_put, one_put_journal}
+use Rattle.tp_histories.proofs.OnePut.Outputs as sends
+use Rattle.tp_histories.proofs.Words.{the_plan}
 use Rattle.tp_rules.specs.Runs.{IsLegal, IsRun}
 
 legal_1 : IsLegal one_put [] run.entry_1

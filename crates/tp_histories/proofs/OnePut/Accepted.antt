@@ -1,7 +1,7 @@
 -- The script of one put is an accepted one, so what is said of accepted scripts is said of it.
 use Rattle.std.proofs.Common.{◌≡◌, ℕ, ◌==◌, Bool, true, false, cond, [], ◌∷◌, length, map, refl, arith}
 use Rattle.tp_ops.specs.declared.command.Command.{Command}
-use Rattle.tp_rules.proofs.OnePut.{one_put, put_a}
+use Rattle.tp_histories.proofs.OnePut.Journal.{one_put, put_a}
 use Rattle.tp_script.specs.Accepted.{IsAccepted, AreNumbered}
 use Rattle.tp_topology.specs.Counting.{up_to}
 

@@ -1,6 +1,6 @@
 -- Ballots, rings and stable stamps at shapes of odd and even numbers of replicas.
 use Rattle.std.proofs.Common.{◌≡◌, ℕ, true, false, List, [], ◌∷◌, filter, refl}
-use Rattle.tp_rules.proofs.RunWords.{id, pair}
+use Rattle.tp_histories.proofs.Words.{id, pair}
 use Rattle.tp_topology.specs.Ballots.{owner, next_ballot}
 use Rattle.tp_topology.specs.Counting.{up_to}
 use Rattle.tp_topology.specs.Shape.{Shape, in_ring}

@@ -2,7 +2,7 @@
 use Rattle.std.proofs.Common.{◌≡◌, List, [], ◌∷◌, None, refl}
 use Rattle.tp_ops.specs.declared.command.Command.{Command}
 use Rattle.tp_ops.specs.declared.operation.Op.TheVariants.{Put}
-use Rattle.tp_stories.proofs.Words.{process_at, session_of, stamp, first_of, command, the_rules}
+use Rattle.tp_histories.proofs.Words.{process_at, session_of, stamp, id, command, the_rules}
 use Rattle.tp_rules.specs.Acts.{Act, Took, ProcessAt}
 use Rattle.tp_rules.specs.Addresses.{message, site}
 use Rattle.tp_rules.specs.Process.{state_after}
@@ -16,11 +16,11 @@ two = record { partitions = 2; replicas = 3; failures = 1 }
 
 -- put b 1 on partition 1, put a 1 on partition 2, home rank 1
 abbrev put_both : Command
-put_both = command 1 (Put (98 ∷ []) (49 ∷ []) ∷ Put (97 ∷ []) (49 ∷ []) ∷ [])
+put_both = command (id 1 1) 1 (Put (98 ∷ []) (49 ∷ []) ∷ Put (97 ∷ []) (49 ∷ []) ∷ [])
 
 abbrev decided : List Act
 decided =
-    Took (message (process_at 1 2) (process_at 1 1) (MProposeAck (first_of 1) (stamp 1))) ∷
+    Took (message (process_at 1 2) (process_at 1 1) (MProposeAck (id 1 1) (stamp 1))) ∷
     Took (message (session_of 1) (process_at 1 1) (MSubmit put_both)) ∷
     []
 
@@ -32,7 +32,7 @@ unfolding the_rules
 told_alone = refl
 
 abbrev sheet : Sheet
-sheet = (state_after (ring_setting two) (site 1 1) (recovery ∷ decided)).sheets (first_of 1)
+sheet = (state_after (ring_setting two) (site 1 1) (recovery ∷ decided)).sheets (id 1 1)
 
 -- the other partition's stamp is still awaited
 no_stamp_yet : final_stamp two sheet sheet.command ≡ None

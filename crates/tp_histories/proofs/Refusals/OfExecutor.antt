@@ -3,7 +3,7 @@ use Rattle.std.proofs.Common.{◌≡◌, ℕ, List, [], ◌∷◌, Some, None, r
 use Rattle.tp_base.specs.declared.names.ActorName.{ActorName}
 use Rattle.tp_ops.specs.declared.command.Command.{Command}
 use Rattle.tp_ops.specs.declared.operation.Op.TheVariants.{Put}
-use Rattle.tp_rules.proofs.RunWords.{process_at, executor_at, session_of, stamp, id, pair, command, the_rules}
+use Rattle.tp_histories.proofs.Words.{process_at, executor_at, session_of, stamp, id, pair, command, the_rules}
 use Rattle.tp_rules.specs.Acts.{Act, Took, Did, Identity, ExecutorAt}
 use Rattle.tp_rules.specs.Addresses.{message, site}
 use Rattle.tp_rules.specs.Executor.{ExecutorState, Moved, react, state_after}

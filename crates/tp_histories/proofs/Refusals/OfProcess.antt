@@ -2,8 +2,8 @@
 use Rattle.std.proofs.Common.{◌≡◌, ℕ, ◌-◌, ◌^◌, List, [], ◌∷◌, None, refl, ap}
 use Rattle.tp_ops.specs.declared.command.Command.{Command}
 use Rattle.tp_ops.specs.declared.operation.Op.TheVariants.{Put}
-use Rattle.tp_rules.proofs.RunWords.{process_at, session_of, partition, stamp, id, command, the_rules}
-use Rattle.tp_rules.proofs.SameSheet.{same_sheet}
+use Rattle.tp_histories.proofs.Words.{process_at, session_of, partition, stamp, id, command, the_rules}
+use Rattle.tp_histories.proofs.Refusals.SameSheet.{same_sheet}
 use Rattle.tp_rules.specs.Acts.{Act, Took, Did, ProcessAt}
 use Rattle.tp_rules.specs.Addresses.{message, site}
 use Rattle.tp_rules.specs.Process.{ProcessState, Moved, react, state_after}

@@ -1,0 +1,5 @@
+mod Cases
+mod EverySiteCrashes
+mod OnePut
+mod Refusals
+pub mod Words

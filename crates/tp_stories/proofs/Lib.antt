@@ -1,4 +1,0 @@
-mod Words
-mod AskedAgain
-mod OtherCommands
-mod AllCrashed
