@@ -2,7 +2,5 @@
 mod Accepted
 mod Illegal
 pub mod Journal
-mod Legal
 mod Outcome
-pub mod Outputs
-mod Picked
+mod Run

@@ -1,30 +1,21 @@
--- What the run of one put comes to: each replica executed the put at stamp 1, and the client was told that there was no value before.
-use Rattle.std.proofs.Common.{◌≡◌, [], ◌∷◌, Some, refl, sym, ◌∙◌}
+-- What the run of one put comes to: each replica executed the put at stamp 1, and the client was told that there was no value
+-- before. It keeps the four laws.
+use Rattle.std.proofs.Common.{◌≡◌, true, [], ◌∷◌, Some, refl}
 use Rattle.std.specs.Prelude.{reverse}
-use Rattle.tp_base.proofs.Each.{each_in}
-use Rattle.tp_base.specs.Lists.{Each, IsIn}
 use Rattle.tp_ops.specs.declared.operation.Answer.TheVariants.{Missing}
+use Rattle.tp_histories.proofs.LawTests.{lawful_by_tests, passes}
 use Rattle.tp_histories.proofs.OnePut.Journal.{one_put, one_put_journal}
-use Rattle.tp_histories.proofs.Words.{id, the_rules}
+use Rattle.tp_histories.proofs.Words.{commit_at, id, the_laws, the_rules}
 use Rattle.tp_rules.specs.Addresses.{site}
-use Rattle.tp_rules.specs.Laws.{CommitsAgree}
-use Rattle.tp_rules.specs.Outcome.{Commit, commits, executions, line, reply_to, sequential_answers}
+use Rattle.tp_rules.specs.Laws.{KeepsLaws}
+use Rattle.tp_rules.specs.Outcome.{commits, executions, line, reply_to, sequential_answers}
 
-commit_at : commits (reverse one_put_journal) ≡
-    record { site = site 1 1; id = id 1 1; stamp = 1 } ∷
-    record { site = site 1 2; id = id 1 1; stamp = 1 } ∷
-    record { site = site 1 3; id = id 1 1; stamp = 1 } ∷
+one_put_commits : commits (reverse one_put_journal) ≡
+    commit_at 1 1 (id 1 1) 1 ∷
+    commit_at 1 2 (id 1 1) 1 ∷
+    commit_at 1 3 (id 1 1) 1 ∷
     []
-commit_at = refl
-
-all_at_1 : Each (λ (c : Commit). c.stamp ≡ 1) (commits (reverse one_put_journal))
-all_at_1 = (refl, (refl, (refl, tt)))
-
-one_put_agrees : CommitsAgree (reverse one_put_journal)
-unfolding CommitsAgree
-one_put_agrees a b here there same =
-    let at_1 : (c : Commit) → IsIn c (commits (reverse one_put_journal)) → c.stamp ≡ 1 = λ c. each_in (λ (d : Commit). d.stamp ≡ 1) (commits (reverse one_put_journal)) c all_at_1 in
-    at_1 a here ∙ sym (at_1 b there)
+one_put_commits = refl
 
 one_put_at_1 : executions (reverse one_put_journal) (site 1 1) ≡ id 1 1 ∷ []
 one_put_at_1 = refl
@@ -45,3 +36,11 @@ one_put_reply = refl
 one_put_sequential : sequential_answers one_put (line (reverse one_put_journal)) (id 1 1) ≡ Missing ∷ []
 unfolding sequential_answers
 one_put_sequential = refl
+
+tested : passes one_put (reverse one_put_journal) ≡ true
+unfolding the_laws
+tested = refl
+
+one_put_is_lawful : KeepsLaws one_put one_put_journal
+unfolding the_laws
+one_put_is_lawful = lawful_by_tests one_put (reverse one_put_journal) tested ((refl, refl), tt)
