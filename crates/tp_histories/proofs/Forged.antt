@@ -1,5 +1,5 @@
 -- Journals that the laws refuse, one for each of them and each as small as can be. Their entries needn't follow any rule.
-use Rattle.std.proofs.Common.{◌≡◌, ℕ, true, false, List, [], ◌∷◌, ◌++◌, Option, Some, inl, inr, refl, ap, arith}
+use Rattle.std.proofs.Common.{◌≡◌, ℕ, true, false, List, [], ◌∷◌, ◌++◌, inl, inr, refl, ap, arith}
 use Rattle.std.specs.Prelude.{reverse}
 use Rattle.tp_base.specs.Lists.{IsPrefixOf, has}
 use Rattle.tp_base.specs.Names.{same_id}

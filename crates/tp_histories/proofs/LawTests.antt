@@ -1,5 +1,5 @@
 -- The four laws of a journal by tests that compute. Used for each whole run of this crate.
-use Rattle.std.proofs.Common.{◌≡◌, ℕ, ◌==◌, ◌≤◌, ◌&&◌, ◌||◌, not, inl, inr, Bool, true, false, List, [], ◌∷◌, ◌++◌, Option, Some, None, map, filter, cond, refl, sym, ap, subst, ◌∙◌, eqb-true}
+use Rattle.std.proofs.Common.{◌≡◌, ℕ, ◌==◌, ◌≤◌, ◌&&◌, ◌||◌, not, inl, inr, Bool, true, false, List, [], ◌∷◌, ◌++◌, Option, Some, None, map, refl, sym, ap, subst, ◌∙◌, eqb-true}
 use Rattle.std.proofs.lemmas.Bool.{and_from, and_parts, cases_Bool, cond-true, cond-false, le-leb, leb-true, or_cases}
 use Rattle.std.specs.List.{list_all, list_any}
 use Rattle.std.specs.Prelude.{find, is_some}
@@ -16,7 +16,7 @@ use Rattle.tp_ops.specs.declared.command.Command.{Command}
 use Rattle.tp_ops.specs.declared.operation.Answer.{Answer}
 use Rattle.tp_rules.proofs.UpTo.{in_up_to}
 use Rattle.tp_rules.specs.Addresses.{is_between, is_site_of, site}
-use Rattle.tp_rules.specs.Laws.{CommitsAgree, IsCommitted, IsLawful, IsShareOrdered, LineKeepsRealTime, LineOrders, RepliesAreSequential, StandsBefore}
+use Rattle.tp_rules.specs.Laws.{CommitsAgree, IsCommitted, IsLawful, IsShareOrdered, LineKeepsRealTime, LineOrders, RepliesAreSequential}
 use Rattle.tp_rules.specs.Outcome.{Commit, accesses, command_of, commits, executions, first_result, is_submission_of, key_in, line, precedes, reply_from, reply_to, sequential_answers, share, stamp_in, those_before}
 use Rattle.tp_rules.specs.declared.event.Entry.{Entry}
 use Rattle.tp_script.specs.declared.script.Script.{Script}
@@ -35,7 +35,7 @@ agrees older test a b here there same =
     at_first : (c : Commit) → IsIn c (commits older) → c.stamp ≡ stamp_in (commits older) c.id
     at_first c in_it =
         eqb-true c.stamp (stamp_in (commits older) c.id)
-          (all_in (λ (d : Commit). d.stamp == stamp_in (commits older) d.id) (commits older) c test in_it)
+        (all_in (λ (d : Commit). d.stamp == stamp_in (commits older) d.id) (commits older) c test in_it)
 
 -- the order: of each partition of the shape, since no command accesses another
 
@@ -109,9 +109,9 @@ within script older p test =
         let both = and_parts (is_between s.partition.0 script.topology.partitions) (is_between s.rank.0 script.topology.replicas) known in
         let rank = between_is s.rank.0 script.topology.replicas both.1 in
         subst (λ (q : ℕ). IsPrefixOf (executions older (site q s.rank.0)) (share script p (line older))) (sym is)
-          (prefix_is (executions older (site p s.rank.0)) (share script p (line older))
-            (all_in (begins_share script older p) (up_to script.topology.replicas) s.rank.0 each
-              (in_up_to script.topology.replicas s.rank.0 rank.0 rank.1)))
+        (prefix_is (executions older (site p s.rank.0)) (share script p (line older))
+        (all_in (begins_share script older p) (up_to script.topology.replicas) s.rank.0 each
+        (in_up_to script.topology.replicas s.rank.0 rank.0 rank.1)))
 
 -- no command accesses a partition that the shape has not
 nothing_outside : (script : Script) → 1 ≤ script.topology.partitions → (p : ℕ) → is_between p script.topology.partitions ≡ false →
@@ -156,8 +156,8 @@ orders script older test p =
       | inl inside ↦
           let from = between_is p script.topology.partitions inside in
           within script older p
-            (all_in (is_share_ordered script older) (up_to script.topology.partitions) p both.1
-              (in_up_to script.topology.partitions p from.0 from.1))
+          (all_in (is_share_ordered script older) (up_to script.topology.partitions) p both.1
+          (in_up_to script.topology.partitions p from.0 from.1))
       | inr apart ↦ outside script older some.1 p apart
     ]
 

@@ -1,5 +1,5 @@
 -- The same with the plan: the steps are a run of the script where the plan allows each of them. Used for the runs of scripts.
-use Rattle.std.proofs.Common.{◌≡◌, ◌<◌, ℕ, ◌&&◌, not, Bool, true, false, List, [], ◌∷◌, Option, Some, None, refl, sym, ap, subst}
+use Rattle.std.proofs.Common.{◌≡◌, ℕ, ◌&&◌, not, Bool, true, false, List, [], ◌∷◌, Option, Some, None, refl, ap, subst}
 use Rattle.std.proofs.lemmas.Bool.{and_parts, ltb-true}
 use Rattle.std.specs.Prelude.{nat_lt}
 use Rattle.tp_histories.proofs.Played.{follows, inner_is, made, may_play, may_step, played_after, same_inner}
@@ -85,7 +85,7 @@ module _ (script : Script) (older : List Entry) where
   delivered_is entry place is m there =
       let parcel : Parcel = record { entry = entry; place = place; message = m } in
       let both = and_parts (not (is_lost (fate_of script older parcel))) (is_left script older parcel)
-        (subst (λ (o : Option Message). may_deliver script older entry place o ≡ true) there is) in
+      (subst (λ (o : Option Message). may_deliver script older entry place o ≡ true) there is) in
       (not_lost (fate_of script older parcel) (not_is (is_lost (fate_of script older parcel)) both.0), ltb-true 0 (deliveries_left script older parcel) both.1)
 
   loss_is : (entry place : ℕ) → may_lose script older entry place (output_at older entry place) ≡ true →
@@ -93,7 +93,7 @@ module _ (script : Script) (older : List Entry) where
   loss_is entry place is m there =
       let parcel : Parcel = record { entry = entry; place = place; message = m } in
       let both = and_parts (is_lost (fate_of script older parcel)) (is_left script older parcel)
-        (subst (λ (o : Option Message). may_lose script older entry place o ≡ true) there is) in
+      (subst (λ (o : Option Message). may_lose script older entry place o ≡ true) there is) in
       (lost_is (fate_of script older parcel) both.0, ltb-true 0 (deliveries_left script older parcel) both.1)
 
   fate_is : (event : Event) → follows_fate script older event ≡ true → FollowsFate script older event
@@ -114,4 +114,4 @@ goes_on script older (it ∷ rest) history may allowed =
     let steps = and_parts (may_step script older it) (may_play script (made script older it ∷ older) rest) may in
     let plans = and_parts (is_allowed script older it) (are_allowed script (made script older it ∷ older) rest) allowed in
     goes_on script (made script older it ∷ older) rest
-      (history, record { rules = follows script older it steps.0; plan = allowed_is script older it plans.0 }) steps.1 plans.1
+    (history, record { rules = follows script older it steps.0; plan = allowed_is script older it plans.0 }) steps.1 plans.1

@@ -1,6 +1,6 @@
 -- A run given by its steps alone: each sends what the rules say, so it is a free run where each step may be made.
 -- Used for each whole run of this crate.
-use Rattle.std.proofs.Common.{◌≡◌, ℕ, ◌==◌, ◌&&◌, Bool, true, false, List, [], ◌∷◌, Option, Some, None, refl, sym, ap, ◌∙◌, eqb-true}
+use Rattle.std.proofs.Common.{◌≡◌, ◌==◌, ◌&&◌, Bool, true, false, List, [], ◌∷◌, Option, Some, None, refl, ap, eqb-true}
 use Rattle.std.proofs.lemmas.Bool.{and_parts}
 use Rattle.tp_base.proofs.SameNames.{same_id_is, same_name_is}
 use Rattle.tp_base.specs.Names.{same_id, same_name}

@@ -27,4 +27,4 @@ pub scheduled_is_picked : (script : Script) (n : ℕ) → IsPickedHistory script
 scheduled_is_picked script zero = tt
 scheduled_is_picked script (suc n) =
     with_picked script (scheduled script n) (slice_get (pending script (scheduled script n)) (index_next script (scheduled script n))) refl
-      (scheduled_is_picked script n)
+    (scheduled_is_picked script n)

@@ -7,7 +7,7 @@ use Rattle.tp_ops.specs.declared.operation.Op.TheVariants.{Put}
 use Rattle.tp_histories.proofs.Words.{process_at, executor_at, session_of, partition, stamp, id, pair, command, the_rules}
 use Rattle.tp_rules.specs.Acts.{Act, Took, Did, Identity, ProcessAt}
 use Rattle.tp_rules.specs.Addresses.{message, site}
-use Rattle.tp_rules.specs.Process.{Moved, ProcessState, react, state_after}
+use Rattle.tp_rules.specs.Process.{Moved, react, state_after}
 use Rattle.tp_rules.specs.Rules.{outputs_of}
 use Rattle.tp_rules.specs.Sheet.{ring_setting}
 use Rattle.tp_rules.specs.declared.event.Inner.TheVariants.{Announce, Recover}

@@ -38,47 +38,47 @@ one_put_journal =
     submission ∷
     proposal ∷
     entry (process_at 1 2) (Deliver 2 1) (
-        message (process_at 1 2) (process_at 1 1) (MProposeAck (id 1 1) (stamp 1)) ∷ []) ∷
+    message (process_at 1 2) (process_at 1 1) (MProposeAck (id 1 1) (stamp 1)) ∷ []) ∷
     entry (process_at 1 3) (Deliver 2 2) [] ∷
     entry (process_at 1 1) (Deliver 3 1) (
-        message (process_at 1 1) (process_at 1 2) (MCommit put_a (partition 1) (stamp 1)) ∷
-        message (process_at 1 1) (process_at 1 3) (MCommit put_a (partition 1) (stamp 1)) ∷
-        message (process_at 1 1) (executor_at 1 1) (MCommitted put_a (stamp 1)) ∷ []) ∷
+    message (process_at 1 1) (process_at 1 2) (MCommit put_a (partition 1) (stamp 1)) ∷
+    message (process_at 1 1) (process_at 1 3) (MCommit put_a (partition 1) (stamp 1)) ∷
+    message (process_at 1 1) (executor_at 1 1) (MCommitted put_a (stamp 1)) ∷ []) ∷
     entry (process_at 1 2) (Deliver 5 1) (
-        message (process_at 1 2) (executor_at 1 2) (MCommitted put_a (stamp 1)) ∷ []) ∷
+    message (process_at 1 2) (executor_at 1 2) (MCommitted put_a (stamp 1)) ∷ []) ∷
     entry (process_at 1 3) (Deliver 5 2) (
-        message (process_at 1 3) (executor_at 1 3) (MCommitted put_a (stamp 1)) ∷ []) ∷
+    message (process_at 1 3) (executor_at 1 3) (MCommitted put_a (stamp 1)) ∷ []) ∷
     entry (executor_at 1 1) (Deliver 5 3) [] ∷
     entry (executor_at 1 2) (Deliver 6 1) [] ∷
     entry (executor_at 1 3) (Deliver 7 1) [] ∷
     entry (process_at 1 1) (OfItself Announce) (
-        message (process_at 1 1) (executor_at 1 1) (MPromises 0 1 (pair (id 1 1) 1 ∷ [])) ∷
-        message (process_at 1 1) (executor_at 1 2) (MPromises 0 1 (pair (id 1 1) 1 ∷ [])) ∷
-        message (process_at 1 1) (executor_at 1 3) (MPromises 0 1 (pair (id 1 1) 1 ∷ [])) ∷ []) ∷
+    message (process_at 1 1) (executor_at 1 1) (MPromises 0 1 (pair (id 1 1) 1 ∷ [])) ∷
+    message (process_at 1 1) (executor_at 1 2) (MPromises 0 1 (pair (id 1 1) 1 ∷ [])) ∷
+    message (process_at 1 1) (executor_at 1 3) (MPromises 0 1 (pair (id 1 1) 1 ∷ [])) ∷ []) ∷
     entry (executor_at 1 1) (Deliver 11 1) [] ∷
     entry (executor_at 1 2) (Deliver 11 2) [] ∷
     entry (executor_at 1 3) (Deliver 11 3) [] ∷
     entry (process_at 1 2) (OfItself Announce) (
-        message (process_at 1 2) (executor_at 1 1) (MPromises 0 1 (pair (id 1 1) 1 ∷ [])) ∷
-        message (process_at 1 2) (executor_at 1 2) (MPromises 0 1 (pair (id 1 1) 1 ∷ [])) ∷
-        message (process_at 1 2) (executor_at 1 3) (MPromises 0 1 (pair (id 1 1) 1 ∷ [])) ∷ []) ∷
+    message (process_at 1 2) (executor_at 1 1) (MPromises 0 1 (pair (id 1 1) 1 ∷ [])) ∷
+    message (process_at 1 2) (executor_at 1 2) (MPromises 0 1 (pair (id 1 1) 1 ∷ [])) ∷
+    message (process_at 1 2) (executor_at 1 3) (MPromises 0 1 (pair (id 1 1) 1 ∷ [])) ∷ []) ∷
     entry (executor_at 1 1) (Deliver 15 1) [] ∷
     entry (executor_at 1 2) (Deliver 15 2) [] ∷
     entry (executor_at 1 3) (Deliver 15 3) [] ∷
     entry (process_at 1 3) (OfItself Announce) (
-        message (process_at 1 3) (executor_at 1 1) (MPromises 0 1 []) ∷
-        message (process_at 1 3) (executor_at 1 2) (MPromises 0 1 []) ∷
-        message (process_at 1 3) (executor_at 1 3) (MPromises 0 1 []) ∷ []) ∷
+    message (process_at 1 3) (executor_at 1 1) (MPromises 0 1 []) ∷
+    message (process_at 1 3) (executor_at 1 2) (MPromises 0 1 []) ∷
+    message (process_at 1 3) (executor_at 1 3) (MPromises 0 1 []) ∷ []) ∷
     entry (executor_at 1 1) (Deliver 19 1) [] ∷
     entry (executor_at 1 2) (Deliver 19 2) [] ∷
     entry (executor_at 1 3) (Deliver 19 3) [] ∷
     entry (executor_at 1 1) (OfItself (Execute (id 1 1))) (
-        message (executor_at 1 1) (session_of 1) (MResult (id 1 1) (partition 1) (Missing ∷ [])) ∷ []) ∷
+    message (executor_at 1 1) (session_of 1) (MResult (id 1 1) (partition 1) (Missing ∷ [])) ∷ []) ∷
     entry (session_of 1) (Deliver 23 1) [] ∷
     entry (executor_at 1 2) (OfItself (Execute (id 1 1))) (
-        message (executor_at 1 2) (session_of 1) (MResult (id 1 1) (partition 1) (Missing ∷ [])) ∷ []) ∷
+    message (executor_at 1 2) (session_of 1) (MResult (id 1 1) (partition 1) (Missing ∷ [])) ∷ []) ∷
     entry (session_of 1) (Deliver 25 1) [] ∷
     entry (executor_at 1 3) (OfItself (Execute (id 1 1))) (
-        message (executor_at 1 3) (session_of 1) (MResult (id 1 1) (partition 1) (Missing ∷ [])) ∷ []) ∷
+    message (executor_at 1 3) (session_of 1) (MResult (id 1 1) (partition 1) (Missing ∷ [])) ∷ []) ∷
     entry (session_of 1) (Deliver 27 1) [] ∷
     []

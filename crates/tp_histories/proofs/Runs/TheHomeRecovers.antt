@@ -1,26 +1,23 @@
 -- The run in which the home recovers its own put, from its steps: the stamp is decided by votes at the home's own ballot.
 -- It keeps the four laws.
-use Rattle.std.proofs.Common.{◌≡◌, ℕ, true, List, [], ◌∷◌, Some, None, refl, sym, subst}
-use Rattle.tp_ops.specs.declared.operation.Answer.TheVariants.{Missing, Value}
-use Rattle.tp_ops.specs.declared.operation.Op.TheVariants.{Put, Get}
-use Rattle.tp_ops.specs.declared.command.Command.{Command}
+use Rattle.std.proofs.Common.{◌≡◌, true, List, [], ◌∷◌, Some, refl, subst}
+use Rattle.tp_ops.specs.declared.operation.Answer.TheVariants.{Missing}
 use Rattle.tp_histories.proofs.LawTests.{lawful_by_tests, passes}
 use Rattle.tp_histories.proofs.OnePut.Journal.{one_put}
 use Rattle.tp_histories.proofs.Planned.{are_allowed, goes_on}
-use Rattle.tp_histories.proofs.Played.{free_on, may_play, played}
+use Rattle.tp_histories.proofs.Played.{may_play, played}
 use Rattle.tp_histories.proofs.Scheduled.{scheduled, scheduled_is_picked}
-use Rattle.tp_histories.proofs.Words.{commit_at, process_at, executor_at, session_of, rank, id, command, the_laws, the_plan, the_rules}
+use Rattle.tp_histories.proofs.Words.{commit_at, process_at, executor_at, session_of, id, the_laws, the_plan, the_rules}
 use Rattle.tp_rules.specs.Addresses.{site}
-use Rattle.tp_rules.specs.Journal.{has_crashed}
 use Rattle.tp_rules.specs.Laws.{IsLawful}
-use Rattle.tp_rules.specs.Outcome.{commits, executions, line, precedes, reply_to}
+use Rattle.tp_rules.specs.Outcome.{commits, executions, line, reply_to}
 use Rattle.tp_rules.specs.Pending.{IsPickedHistory, item, pending}
-use Rattle.tp_rules.specs.Runs.{IsFreeHistory, IsHistory}
+use Rattle.tp_rules.specs.Runs.{IsHistory}
 use Rattle.tp_rules.specs.declared.event.Entry.{Entry}
 use Rattle.tp_rules.specs.declared.event.Event.TheVariants.{Deliver, Inner as OfItself}
-use Rattle.tp_rules.specs.declared.event.Inner.TheVariants.{Submit, Announce, Declare, Execute, Recover, Crash}
+use Rattle.tp_rules.specs.declared.event.Inner.TheVariants.{Submit, Announce, Execute, Recover}
 use Rattle.tp_rules.specs.declared.event.Item.{Item}
-use Rattle.tp_script.specs.declared.script.PlanLine.TheVariants.{Crash as CrashLine, Recover as RecoverLine}
+use Rattle.tp_script.specs.declared.script.PlanLine.TheVariants.{Recover as RecoverLine}
 use Rattle.tp_script.specs.declared.script.Script.{Script}
 
 abbrev pub script : Script
