@@ -1,4 +1,4 @@
--- Journals that the laws refuse, one for each of them and each as small as can be. Their entries needn't follow any rule.
+-- Journals that the four laws refuse, each as small as can be. Their entries needn't follow any rule.
 use Rattle.std.proofs.Common.{◌≡◌, ℕ, true, false, List, [], ◌∷◌, ◌++◌, inl, inr, refl, ap, arith}
 use Rattle.std.specs.Prelude.{reverse}
 use Rattle.tp_base.specs.Lists.{IsPrefixOf, has}
@@ -32,7 +32,8 @@ two_puts = record {
 }
 
 abbrev commits_at : ℕ → ℕ → ℕ → Entry
-commits_at k s t = entry (process_at 1 k) (OfItself Announce) (message (process_at 1 k) (executor_at 1 k) (MCommitted (put_a s) (stamp t)) ∷ [])
+commits_at k s t = entry (process_at 1 k) (OfItself Announce)
+    (message (process_at 1 k) (executor_at 1 k) (MCommitted (put_a s) (stamp t)) ∷ [])
 
 abbrev executes : ℕ → ℕ → Entry
 executes k s = entry (executor_at 1 k) (OfItself (Execute (id s 1))) []
@@ -48,7 +49,8 @@ two_commands same = let sessions : ◌≡◌ {A = ℕ} 2 1 = ap (λ (i : Command
 two_stamps : ¬ CommitsAgree (reverse (commits_at 1 1 1 ∷ commits_at 2 1 2 ∷ []))
 unfolding CommitsAgree
 two_stamps agree =
-    let same : ◌≡◌ {A = ℕ} 1 2 = agree (record { site = site 1 1; id = id 1 1; stamp = 1 }) (record { site = site 1 2; id = id 1 1; stamp = 2 }) (inl refl) (inr (inl refl)) refl in
+    let same : ◌≡◌ {A = ℕ} 1 2 = agree (record { site = site 1 1; id = id 1 1; stamp = 1 })
+    (record { site = site 1 2; id = id 1 1; stamp = 2 }) (inl refl) (inr (inl refl)) refl in
     omega arith
 
 abbrev both_committed : List Entry
@@ -74,21 +76,25 @@ not_committed order = let commit = (order 1).committed (id 1 1) (inl refl) in co
 
 -- the first put is answered before the second is submitted, and stands behind it in the line
 late_in_line : ¬ LineKeepsRealTime two_puts (reverse (
-    executes 1 2 ∷ answers 1 Missing ∷ entry (session_of 1) (Deliver 2 1) [] ∷ entry (session_of 2) (OfItself (Submit 1)) [] ∷ []))
+    executes 1 2 ∷ answers 1 Missing ∷
+    entry (session_of 1) (Deliver 2 1) [] ∷ entry (session_of 2) (OfItself (Submit 1)) [] ∷ []))
 unfolding LineKeepsRealTime the_rules
 late_in_line real_time =
     let before = real_time (id 1 1) (id 2 1) refl refl in
     not_before before.0 before.1 before.2 before.3
   where
-    not_before : (before rest : List CommandId) → id 2 1 ∷ id 1 1 ∷ [] ≡ before ++ id 2 1 ∷ rest → has same_id (id 1 1) before ≡ true → ⊥
+    not_before : (before rest : List CommandId) → id 2 1 ∷ id 1 1 ∷ [] ≡ before ++ id 2 1 ∷ rest →
+        has same_id (id 1 1) before ≡ true → ⊥
     not_before [] rest split there = cc
     not_before (x ∷ []) rest split there = two_commands cc
     not_before (x ∷ y ∷ []) rest split there = let none : ◌≡◌ {A = List CommandId} [] (id 2 1 ∷ rest) = cc in cc
     not_before (x ∷ y ∷ z ∷ more) rest split there = let none : [] ≡ z ∷ (more ++ id 2 1 ∷ rest) = cc in cc
 
 -- a value before the first put, where there was none
-other_reply : ¬ RepliesAreSequential two_puts (reverse (answers 1 (Value (49 ∷ [])) ∷ entry (session_of 1) (Deliver 1 1) [] ∷ []))
+other_reply : ¬ RepliesAreSequential two_puts
+    (reverse (answers 1 (Value (49 ∷ [])) ∷ entry (session_of 1) (Deliver 1 1) [] ∷ []))
 unfolding RepliesAreSequential sequential_answers the_rules
 other_reply sequential =
-    let same : ◌≡◌ {A = List Answer} (Value (49 ∷ []) ∷ []) (Missing ∷ []) = (sequential (id 1 1) (Value (49 ∷ []) ∷ []) refl).1 in
+    let same : ◌≡◌ {A = List Answer} (Value (49 ∷ []) ∷ []) (Missing ∷ []) =
+    (sequential (id 1 1) (Value (49 ∷ []) ∷ []) refl).1 in
     cc

@@ -86,27 +86,33 @@ is_share_ordered script older p =
     && ascends (map (key_in (commits older)) (share script p (line older))))
 
 abbrev pub line_orders : Script → List Entry → Bool
-line_orders script older = is_between 1 script.topology.partitions && list_all (is_share_ordered script older) (up_to script.topology.partitions)
+line_orders script older =
+    is_between 1 script.topology.partitions
+    && list_all (is_share_ordered script older) (up_to script.topology.partitions)
 
 between_is : (n high : ℕ) → is_between n high ≡ true → (1 ≤ n) × (n ≤ high)
 between_is n high test =
     let both = and_parts _ _ test in
     (leb-true 1 n both.0, leb-true n high both.1)
 
-within : (script : Script) (older : List Entry) (p : ℕ) → is_share_ordered script older p ≡ true → IsShareOrdered script older p
+within : (script : Script) (older : List Entry) (p : ℕ) → is_share_ordered script older p ≡ true →
+    IsShareOrdered script older p
 within script older p test =
     let replicas = and_parts (list_all (begins_share script older p) (up_to script.topology.replicas)) _ test in
     let ids = and_parts (list_all (is_committed older) (share script p (line older))) _ replicas.1 in
     record {
       prefixes = λ s known is. prefix s known is replicas.0;
-      committed = λ id there. committed_is older id (all_in (is_committed older) (share script p (line older)) id ids.0 there);
+      committed =
+          λ id there. committed_is older id (all_in (is_committed older) (share script p (line older)) id ids.0 there);
       ascending = ascends_is (map (key_in (commits older)) (share script p (line older))) ids.1;
     }
   where
-    prefix : (s : Site) → is_site_of script.topology s ≡ true → s.partition.0 ≡ p → list_all (begins_share script older p) (up_to script.topology.replicas) ≡ true →
+    prefix : (s : Site) → is_site_of script.topology s ≡ true → s.partition.0 ≡ p →
+        list_all (begins_share script older p) (up_to script.topology.replicas) ≡ true →
         IsPrefixOf (executions older s) (share script p (line older))
     prefix s known is each =
-        let both = and_parts (is_between s.partition.0 script.topology.partitions) (is_between s.rank.0 script.topology.replicas) known in
+        let both = and_parts (is_between s.partition.0 script.topology.partitions)
+        (is_between s.rank.0 script.topology.replicas) known in
         let rank = between_is s.rank.0 script.topology.replicas both.1 in
         subst (λ (q : ℕ). IsPrefixOf (executions older (site q s.rank.0)) (share script p (line older))) (sym is)
         (prefix_is (executions older (site p s.rank.0)) (share script p (line older))
@@ -114,7 +120,8 @@ within script older p test =
         (in_up_to script.topology.replicas s.rank.0 rank.0 rank.1)))
 
 -- no command accesses a partition that the shape has not
-nothing_outside : (script : Script) → 1 ≤ script.topology.partitions → (p : ℕ) → is_between p script.topology.partitions ≡ false →
+nothing_outside : (script : Script) → 1 ≤ script.topology.partitions → (p : ℕ) →
+    is_between p script.topology.partitions ≡ false →
     (ids : List CommandId) → share script p ids ≡ []
 unfolding share
 nothing_outside script some p apart [] = refl
@@ -123,7 +130,8 @@ nothing_outside script some p apart (id ∷ ids) =
     elim (cases_Bool (accessed p)) [
       | inl t ↦
           let both = accesses_within script some p (command_of script id) t in
-          let inside : is_between p script.topology.partitions ≡ true = between_from p script.topology.partitions both.0 both.1 in
+          let inside : is_between p script.topology.partitions ≡ true =
+          between_from p script.topology.partitions both.0 both.1 in
           absurd cc
       | inr f ↦ cond-false (accessed p) _ _ f ∙ nothing_outside script some p apart ids
     ]
@@ -143,8 +151,10 @@ outside script older some p apart =
   where
     not_known : (s : Site) → is_site_of script.topology s ≡ true → s.partition.0 ≡ p → ⊥
     not_known s known is =
-        let both = and_parts (is_between s.partition.0 script.topology.partitions) (is_between s.rank.0 script.topology.replicas) known in
-        let inside : is_between p script.topology.partitions ≡ true = subst (λ (q : ℕ). is_between q script.topology.partitions ≡ true) is both.0 in
+        let both = and_parts (is_between s.partition.0 script.topology.partitions)
+        (is_between s.rank.0 script.topology.replicas) known in
+        let inside : is_between p script.topology.partitions ≡ true =
+        subst (λ (q : ℕ). is_between q script.topology.partitions ≡ true) is both.0 in
         cc
 
 orders : (script : Script) (older : List Entry) → line_orders script older ≡ true → LineOrders script older
@@ -166,14 +176,19 @@ orders script older test p =
 found_is : {X : Type 0} (test : X → Bool) (xs : List X) (x : X) → find test xs ≡ Some x → IsIn x xs × (test x ≡ true)
 found_is test [] x e = absurd cc
 found_is test (y ∷ ys) x e = elim (cases_Bool (test y)) [
-  | inl t ↦ let same : y ≡ x = some_is (sym (cond-true (test y) (Some y) (find test ys) t) ∙ e) in (inl (sym same), subst (λ (z : _). test z ≡ true) same t)
-  | inr f ↦ let rest = found_is test ys x (sym (cond-false (test y) (Some y) (find test ys) f) ∙ e) in (inr rest.0, rest.1)
+  | inl t ↦
+      let same : y ≡ x = some_is (sym (cond-true (test y) (Some y) (find test ys) t) ∙ e) in
+      (inl (sym same), subst (λ (z : _). test z ≡ true) same t)
+  | inr f ↦
+      let rest = found_is test ys x (sym (cond-false (test y) (Some y) (find test ys) f) ∙ e) in
+      (inr rest.0, rest.1)
 ]
   where
     some_is : {X : Type 0} {a b : X} → ◌≡◌ {A = Option X} (Some a) (Some b) → a ≡ b
     some_is e = cc
 
-answered_is : (script : Script) (parts : ℕ → Option (List Answer)) (o : Option Command) → is_some (reply_from script parts o) ≡ true → is_some o ≡ true
+answered_is : (script : Script) (parts : ℕ → Option (List Answer)) (o : Option Command) →
+    is_some (reply_from script parts o) ≡ true → is_some o ≡ true
 answered_is script parts None is = cc
 answered_is script parts (Some c) is = refl
 
@@ -187,7 +202,8 @@ command_there script id (Some c) e is =
 answered_there : (script : Script) (older : List Entry) (id : CommandId) → is_some (reply_to script older id) ≡ true →
     (c : Command) × IsIn c script.commands × (c.id ≡ id)
 answered_there script older id is =
-    command_there script id (command_of script id) refl (answered_is script (first_result older id) (command_of script id) is)
+    command_there script id (command_of script id) refl
+    (answered_is script (first_result older id) (command_of script id) is)
 
 -- real time: each command of the script, and each of the line
 
@@ -200,7 +216,8 @@ keeps_order script older c d = not (precedes script older c d) || stands_before 
 abbrev pub keeps_real_time : Script → List Entry → Bool
 keeps_real_time script older = list_all (λ c. list_all (keeps_order script older c.id) (line older)) script.commands
 
-parted : (d : CommandId) (ids : List CommandId) → has same_id d ids ≡ true → (rest : List CommandId) × (ids ≡ those_before d ids ++ d ∷ rest)
+parted : (d : CommandId) (ids : List CommandId) → has same_id d ids ≡ true →
+    (rest : List CommandId) × (ids ≡ those_before d ids ++ d ∷ rest)
 parted d [] h = absurd cc
 parted d (x ∷ xs) h = elim (cases_Bool (same_id x d)) [
   | inl t ↦
@@ -209,7 +226,8 @@ parted d (x ∷ xs) h = elim (cases_Bool (same_id x d)) [
       (xs, cc)
   | inr f ↦
       let rest = parted d xs (later (same_id d x) (has same_id d xs) (same_id_sym d x ∙ f) h) in
-      let more : those_before d (x ∷ xs) ≡ x ∷ those_before d xs = cond-false (same_id x d) [] (x ∷ those_before d xs) f in
+      let more : those_before d (x ∷ xs) ≡ x ∷ those_before d xs =
+      cond-false (same_id x d) [] (x ∷ those_before d xs) f in
       let there : xs ≡ those_before d xs ++ d ∷ rest.0 = rest.1 in
       (rest.0, ap (λ (l : List CommandId). x ∷ l) there ∙ ap (λ (l : List CommandId). l ++ d ∷ rest.0) (sym more))
 ]
@@ -223,18 +241,23 @@ preceding_there : (script : Script) (older : List Entry) (c d : CommandId) → p
 preceding_there script [] c d h = absurd cc
 preceding_there script (e ∷ older) c d h =
     elim (or_cases (is_submission_of d e && is_some (reply_to script older c)) (precedes script older c d) h) [
-      | inl now ↦ answered_there script older c (and_parts (is_submission_of d e) (is_some (reply_to script older c)) now).1
+      | inl now ↦
+          answered_there script older c (and_parts (is_submission_of d e) (is_some (reply_to script older c)) now).1
       | inr before ↦ preceding_there script older c d before
     ]
 
-real_time_is : (script : Script) (older : List Entry) → keeps_real_time script older ≡ true → LineKeepsRealTime script older
+real_time_is : (script : Script) (older : List Entry) → keeps_real_time script older ≡ true →
+    LineKeepsRealTime script older
 unfolding LineKeepsRealTime
 real_time_is script older test c d before there =
     let x = preceding_there script older c d before in
     let in_line : IsIn d (line older) = has_in same_id same_id_is d (line older) there in
-    let of_x = all_in (λ (y : Command). list_all (keeps_order script older y.id) (line older)) script.commands x.0 test x.1 in
-    let kept : keeps_order script older x.0.id d ≡ true = all_in (keeps_order script older x.0.id) (line older) d of_x in_line in
-    let stands : stands_before c d (line older) ≡ true = ordered (precedes script older c d) _ before (subst (λ (id : CommandId). keeps_order script older id d ≡ true) x.2 kept) in
+    let of_x =
+    all_in (λ (y : Command). list_all (keeps_order script older y.id) (line older)) script.commands x.0 test x.1 in
+    let kept : keeps_order script older x.0.id d ≡ true =
+    all_in (keeps_order script older x.0.id) (line older) d of_x in_line in
+    let stands : stands_before c d (line older) ≡ true = ordered (precedes script older c d) _ before
+    (subst (λ (id : CommandId). keeps_order script older id d ≡ true) x.2 kept) in
     let parts = parted d (line older) there in
     (those_before d (line older), parts.0, parts.1, stands)
   where
@@ -250,21 +273,25 @@ IsSequentialIfAny script older id (Some answers) =
     (has same_id id (line older) ≡ true) × (answers ≡ sequential_answers script (line older) id)
 
 abbrev pub AreSequential : Script → List Entry → Type 0
-AreSequential script older = Each (λ c. IsSequentialIfAny script older c.id (reply_to script older c.id)) script.commands
+AreSequential script older =
+    Each (λ c. IsSequentialIfAny script older c.id (reply_to script older c.id)) script.commands
 
 replies_are : (script : Script) (older : List Entry) → AreSequential script older → RepliesAreSequential script older
 unfolding RepliesAreSequential
 replies_are script older each id answers reply =
     let c = answered_there script older id (ap (λ (o : Option (List Answer)). is_some o) reply) in
-    let of_c = each_in (λ (d : Command). IsSequentialIfAny script older d.id (reply_to script older d.id)) script.commands c.0 each c.1 in
-    subst (IsSequentialIfAny script older id) reply (subst (λ (x : CommandId). IsSequentialIfAny script older x (reply_to script older x)) c.2 of_c)
+    let of_c = each_in (λ (d : Command). IsSequentialIfAny script older d.id (reply_to script older d.id))
+    script.commands c.0 each c.1 in
+    subst (IsSequentialIfAny script older id) reply
+    (subst (λ (x : CommandId). IsSequentialIfAny script older x (reply_to script older x)) c.2 of_c)
 
 -- agreement, order and real time by their tests
 abbrev pub passes : Script → List Entry → Bool
 passes script older = commits_agree older && (line_orders script older && keeps_real_time script older)
 
 -- a journal that passes them, and whose replies are sequential, keeps the four laws
-pub lawful_by_tests : (script : Script) (older : List Entry) → passes script older ≡ true → AreSequential script older → IsLawful script older
+pub lawful_by_tests : (script : Script) (older : List Entry) → passes script older ≡ true →
+    AreSequential script older → IsLawful script older
 lawful_by_tests script older test replies =
     let agreement = and_parts (commits_agree older) _ test in
     let order = and_parts (line_orders script older) (keeps_real_time script older) agreement.1 in

@@ -1,11 +1,11 @@
--- The same with the plan: the steps are a run of the script where the plan allows each of them. Used for the runs of scripts.
+-- The same with the plan: steps that it allows are a run of the script. Used for the runs of scripts with a plan.
 use Rattle.std.proofs.Common.{◌≡◌, ℕ, ◌&&◌, not, Bool, true, false, List, [], ◌∷◌, Option, Some, None, refl, ap, subst}
 use Rattle.std.proofs.lemmas.Bool.{and_parts, ltb-true}
 use Rattle.std.specs.Prelude.{nat_lt}
 use Rattle.tp_histories.proofs.Played.{follows, inner_is, made, may_play, may_step, played_after, same_inner}
 use Rattle.tp_rules.specs.Journal.{output_at}
 use Rattle.tp_rules.specs.Plan.{Fate, Lost, Times, deliveries_left, due_of, fate_of, is_planned}
-use Rattle.tp_rules.specs.Runs.{FollowsFate, FollowsLine, FollowsPlan, IsHistory, IsLost}
+use Rattle.tp_rules.specs.Runs.{FollowsFate, FollowsLine, FollowsPlan, IsHistory, IsLegal, IsLost}
 use Rattle.tp_rules.specs.declared.event.Entry.{Entry}
 use Rattle.tp_rules.specs.declared.event.Event.{Event}
 use Rattle.tp_rules.specs.declared.event.Event.TheVariants.{Deliver, Dropped, Inner as OfItself}
@@ -56,7 +56,8 @@ is_allowed script older it = follows_line (due_of script older it.actor) it.even
 -- whether the plan allows each step after those before it
 abbrev pub are_allowed : Script → List Entry → List Item → Bool
 are_allowed script older [] = true
-are_allowed script older (it ∷ rest) = is_allowed script older it && are_allowed script (made script older it ∷ older) rest
+are_allowed script older (it ∷ rest) =
+    is_allowed script older it && are_allowed script (made script older it ∷ older) rest
 
 own_is : (inner : Inner) (event : Event) → is_own inner event ≡ true → event ≡ OfItself inner
 own_is inner (Deliver entry place) is = absurd cc
@@ -86,7 +87,8 @@ module _ (script : Script) (older : List Entry) where
       let parcel : Parcel = record { entry = entry; place = place; message = m } in
       let both = and_parts (not (is_lost (fate_of script older parcel))) (is_left script older parcel)
       (subst (λ (o : Option Message). may_deliver script older entry place o ≡ true) there is) in
-      (not_lost (fate_of script older parcel) (not_is (is_lost (fate_of script older parcel)) both.0), ltb-true 0 (deliveries_left script older parcel) both.1)
+      let fate = not_lost (fate_of script older parcel) (not_is (is_lost (fate_of script older parcel)) both.0) in
+      (fate, ltb-true 0 (deliveries_left script older parcel) both.1)
 
   loss_is : (entry place : ℕ) → may_lose script older entry place (output_at older entry place) ≡ true →
       FollowsFate script older (Dropped entry place)
@@ -103,15 +105,19 @@ module _ (script : Script) (older : List Entry) where
 
   allowed_is : (it : Item) → is_allowed script older it ≡ true → FollowsPlan script older (made script older it)
   allowed_is it is =
-      let both = and_parts (follows_line (due_of script older it.actor) it.event) (follows_fate script older it.event) is in
+      let both =
+      and_parts (follows_line (due_of script older it.actor) it.event) (follows_fate script older it.event) is in
       record { line = line_is (due_of script older it.actor) it.event both.0; fate = fate_is it.event both.1 }
 
 -- the steps go on a history as a history
 pub goes_on : (script : Script) (older : List Entry) (steps : List Item) → IsHistory script older →
-    may_play script older steps ≡ true → are_allowed script older steps ≡ true → IsHistory script (played_after script older steps)
+    may_play script older steps ≡ true → are_allowed script older steps ≡ true →
+    IsHistory script (played_after script older steps)
 goes_on script older [] history may allowed = history
 goes_on script older (it ∷ rest) history may allowed =
     let steps = and_parts (may_step script older it) (may_play script (made script older it ∷ older) rest) may in
-    let plans = and_parts (is_allowed script older it) (are_allowed script (made script older it ∷ older) rest) allowed in
-    goes_on script (made script older it ∷ older) rest
-    (history, record { rules = follows script older it steps.0; plan = allowed_is script older it plans.0 }) steps.1 plans.1
+    let plans =
+    and_parts (is_allowed script older it) (are_allowed script (made script older it ∷ older) rest) allowed in
+    let legal : IsLegal script older (made script older it) =
+    record { rules = follows script older it steps.0; plan = allowed_is script older it plans.0 } in
+    goes_on script (made script older it ∷ older) rest (history, legal) steps.1 plans.1

@@ -20,7 +20,8 @@ use Rattle.tp_wire.specs.declared.message.Message.{Message}
 
 -- a step with what the rules say that it sends
 abbrev pub made : Script → List Entry → Item → Entry
-made script older it = record { actor = it.actor; event = it.event; outputs = outputs_in script older it.actor it.event }
+made script older it =
+    record { actor = it.actor; event = it.event; outputs = outputs_in script older it.actor it.event }
 
 -- the journal of some steps after others, the newest entry first
 abbrev pub played_after : Script → List Entry → List Item → List Entry
@@ -95,7 +96,8 @@ process_is (ProcessAt shape me) is = tt
 process_is (ExecutorAt shape me) is = cc
 process_is (SessionOf shape client) is = cc
 
-makes : (actor : Identity) (acts : List Act) (inner : Inner) → may_make actor acts inner ≡ true → MayMake actor acts inner
+makes : (actor : Identity) (acts : List Act) (inner : Inner) → may_make actor acts inner ≡ true →
+    MayMake actor acts inner
 makes actor acts (Recover id) may = process_is actor may
 makes actor acts Crash may = process_is actor may
 makes actor acts (Submit n) may = enabled_is (Submit n) (enabled actor acts) may
@@ -103,13 +105,15 @@ makes actor acts Announce may = enabled_is Announce (enabled actor acts) may
 makes actor acts (Declare id) may = enabled_is (Declare id) (enabled actor acts) may
 makes actor acts (Execute id) may = enabled_is (Execute id) (enabled actor acts) may
 
-happens : (script : Script) (older : List Entry) (actor : ActorName) (event : Event) → may_happen script older actor event ≡ true →
+happens : (script : Script) (older : List Entry) (actor : ActorName) (event : Event) →
+    may_happen script older actor event ≡ true →
     MayHappen script older actor event
 happens script older actor (Deliver entry place) may = for_it actor (output_at older entry place) may
 happens script older actor (Dropped entry place) may = for_it actor (output_at older entry place) may
 happens script older actor (OfItself inner) may = makes (identity_in script actor) (acts older actor) inner may
 
-pub follows : (script : Script) (older : List Entry) (it : Item) → may_step script older it ≡ true → FollowsRules script older (made script older it)
+pub follows : (script : Script) (older : List Entry) (it : Item) → may_step script older it ≡ true →
+    FollowsRules script older (made script older it)
 follows script older it may =
     let known = and_parts (is_known script it.actor) _ may in
     let live = and_parts (is_live older it.actor) (may_happen script older it.actor it.event) known.1 in

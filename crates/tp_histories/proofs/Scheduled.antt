@@ -18,7 +18,8 @@ scheduled script (suc n) =
     let older = scheduled script n in
     with_next script older (slice_get (pending script older) (index_next script older))
 
-with_picked : (script : Script) (older : List Entry) (o : Option Item) → slice_get (pending script older) (index_next script older) ≡ o →
+with_picked : (script : Script) (older : List Entry) (o : Option Item) →
+    slice_get (pending script older) (index_next script older) ≡ o →
     IsPickedHistory script older → IsPickedHistory script (with_next script older o)
 with_picked script older None picks history = history
 with_picked script older (Some it) picks history = (history, record { item = picks; outputs = refl })
@@ -26,5 +27,6 @@ with_picked script older (Some it) picks history = (history, record { item = pic
 pub scheduled_is_picked : (script : Script) (n : ℕ) → IsPickedHistory script (scheduled script n)
 scheduled_is_picked script zero = tt
 scheduled_is_picked script (suc n) =
-    with_picked script (scheduled script n) (slice_get (pending script (scheduled script n)) (index_next script (scheduled script n))) refl
+    with_picked script (scheduled script n)
+    (slice_get (pending script (scheduled script n)) (index_next script (scheduled script n))) refl
     (scheduled_is_picked script n)

@@ -1,4 +1,4 @@
--- On the definitions: a home that decided for its own partition of two tells so to the one that recovers, and to nobody else.
+-- A home that decided for its own partition of two tells so to the one that recovers, and to nobody else.
 use Rattle.std.proofs.Common.{◌≡◌, List, [], ◌∷◌, None, refl}
 use Rattle.tp_ops.specs.declared.command.Command.{Command}
 use Rattle.tp_ops.specs.declared.operation.Op.TheVariants.{Put}
@@ -27,7 +27,8 @@ decided =
 abbrev recovery : Act
 recovery = Took (message (process_at 1 3) (process_at 1 1) (MRec put_both 6))
 
-told_alone : outputs_of (ProcessAt two (site 1 1)) decided recovery ≡ message (process_at 1 1) (process_at 1 3) (MCommit put_both (record { 0 = 1 }) (stamp 1)) ∷ []
+told_alone : outputs_of (ProcessAt two (site 1 1)) decided recovery
+    ≡ message (process_at 1 1) (process_at 1 3) (MCommit put_both (record { 0 = 1 }) (stamp 1)) ∷ []
 unfolding the_rules
 told_alone = refl
 

@@ -1,6 +1,6 @@
--- Five replicas, of which two may fail: the greatest proposal is decided at once where two made it, and put to the vote where one did.
--- What is put to the vote is decided with the third vote. A bump of another partition moves the clock, and what is proposed after
--- it lies above.
+-- Five replicas, of which two may fail: the greatest proposal is decided at once where two made it, and put to the
+-- vote where one did. What is put to the vote is decided with the third vote. A bump of another partition moves the
+-- clock, and what is proposed after it lies above.
 use Rattle.std.proofs.Common.{◌≡◌, ℕ, List, [], ◌∷◌, Some, refl}
 use Rattle.tp_ops.specs.declared.command.Command.{Command}
 use Rattle.tp_ops.specs.declared.operation.Op.TheVariants.{Put}
@@ -70,7 +70,8 @@ unfolding the_rules
 fast = refl
 
 -- and the home's clock goes on to the stamp
-fast_clock : (state_after (ring_setting five) (site 1 1) (acknowledged 4 2 ∷ acknowledged 3 2 ∷ acknowledged 2 1 ∷ submitted ∷ [])).clock ≡ 2
+fast_clock : (state_after (ring_setting five) (site 1 1)
+    (acknowledged 4 2 ∷ acknowledged 3 2 ∷ acknowledged 2 1 ∷ submitted ∷ [])).clock ≡ 2
 unfolding the_rules
 fast_clock = refl
 
@@ -85,7 +86,8 @@ put k = Took (message (process_at 1 1) (process_at 1 k) (MConsensus put_b (stamp
 abbrev vote : ℕ → Act
 vote k = Took (message (process_at 1 k) (process_at 1 1) (MConsensusAck (id 1 1) 1))
 
-home_votes : outputs_of home put_acts (put 1) ≡ message (process_at 1 1) (process_at 1 1) (MConsensusAck (id 1 1) 1) ∷ []
+home_votes : outputs_of home put_acts (put 1)
+    ≡ message (process_at 1 1) (process_at 1 1) (MConsensusAck (id 1 1) 1) ∷ []
 unfolding the_rules
 home_votes = refl
 
@@ -93,7 +95,8 @@ home_votes = refl
 abbrev fifth : List Act → ProcessState
 fifth acts = state_after (ring_setting five) (site 1 5) acts
 
-fifth_votes : outputs_of (ProcessAt five (site 1 5)) [] (put 5) ≡ message (process_at 1 5) (process_at 1 1) (MConsensusAck (id 1 1) 1) ∷ []
+fifth_votes : outputs_of (ProcessAt five (site 1 5)) [] (put 5)
+    ≡ message (process_at 1 5) (process_at 1 1) (MConsensusAck (id 1 1) 1) ∷ []
 unfolding the_rules
 fifth_votes = refl
 
@@ -147,6 +150,7 @@ bump_clock : (state_after (ring_setting five) (site 1 4) (bump ∷ [])).clock �
 unfolding the_rules
 bump_clock = refl
 
-proposes_above : outputs_of fourth (bump ∷ []) asked ≡ message (process_at 1 4) (process_at 1 1) (MProposeAck (id 1 1) (stamp 2)) ∷ []
+proposes_above : outputs_of fourth (bump ∷ []) asked
+    ≡ message (process_at 1 4) (process_at 1 1) (MProposeAck (id 1 1) (stamp 2)) ∷ []
 unfolding the_rules
 proposes_above = refl

@@ -1,5 +1,5 @@
--- Where a message brings another command than the one that is kept under its identifier: what it asks for is tested of the
--- message's command and sent with it, and what a step does besides is that of the kept one. No run comes to this.
+-- Where a message brings another command than the one that is kept under its identifier: what it asks for is tested of
+-- the message's command and sent with it, and what a step does besides is that of the kept one. No run comes to this.
 use Rattle.std.proofs.Common.{◌≡◌, List, [], ◌∷◌, Some, None, refl}
 use Rattle.tp_ops.specs.declared.command.Command.{Command}
 use Rattle.tp_ops.specs.declared.operation.Op.TheVariants.{Put}

@@ -1,4 +1,4 @@
--- On the definitions: a recovery that brings another command than the one that is kept under its identifier. No run comes to this.
+-- A recovery that brings another command than the one that is kept under its identifier. No run comes to this.
 use Rattle.std.proofs.Common.{◌≡◌, ℕ, [], ◌∷◌, Some, refl}
 use Rattle.tp_base.specs.declared.names.Made.TheVariants.{Proposal, Recovery}
 use Rattle.tp_ops.specs.declared.command.Command.{Command}
@@ -41,7 +41,8 @@ answered_late : outputs_of at_3 (payload ∷ []) recovery ≡
 unfolding the_rules
 answered_late = refl
 
-first_kept : ((state_after (ring_setting two) (site 1 3) (recovery ∷ payload ∷ [])).sheets (id 1 1)).command ≡ Some put_both
+first_kept : ((state_after (ring_setting two) (site 1 3) (recovery ∷ payload ∷ [])).sheets (id 1 1)).command
+    ≡ Some put_both
 unfolding the_rules
 first_kept = refl
 

@@ -1,4 +1,4 @@
--- Recoveries at three replicas, of which one may fail: the ballot that is tried, what is told to it, and what the answers lead to.
+-- Recoveries at three replicas: the ballot that is tried, what is told to it, and what the answers lead to.
 use Rattle.std.proofs.Common.{◌≡◌, ℕ, ◌-◌, ◌^◌, List, [], ◌∷◌, refl}
 use Rattle.tp_base.specs.declared.names.Made.{Made}
 use Rattle.tp_base.specs.declared.names.Made.TheVariants.{Proposal, Recovery}
@@ -81,7 +81,9 @@ late_announced : outputs_of (at_rank 3) (recovery 2 3 5 ∷ told ∷ []) (Did An
 unfolding the_rules
 late_announced = refl
 
-accepted_told : outputs_of (at_rank 3) (Took (message (process_at 1 2) (process_at 1 3) (MConsensus put_b (stamp 4) 5)) ∷ []) (recovery 3 3 6)
+accepted_told : outputs_of (at_rank 3)
+    (Took (message (process_at 1 2) (process_at 1 3) (MConsensus put_b (stamp 4) 5)) ∷ [])
+    (recovery 3 3 6)
     ≡ message (process_at 1 3) (process_at 1 3) (MRecAck (id 1 1) (stamp 4) Proposal 5 6) ∷ []
 unfolding the_rules
 accepted_told = refl
@@ -152,7 +154,8 @@ recovery_ballot_without_room = refl
 
 -- the clock stands at the greatest stamp, so no late proposal has room, and the command isn't kept
 late_without_room : IsIgnored 2
-    (Took (message (process_at 1 1) (process_at 1 2) (MPropose (command (id 1 2) 1 (Put (98 ∷ []) (49 ∷ []) ∷ [])) (stamp (2 ^ 48 - 1)))) ∷ [])
+    (Took (message (process_at 1 1) (process_at 1 2)
+    (MPropose (command (id 1 2) 1 (Put (98 ∷ []) (49 ∷ []) ∷ [])) (stamp (2 ^ 48 - 1)))) ∷ [])
     (recovery 3 2 6)
 unfolding the_rules
 late_without_room = refl
@@ -165,7 +168,8 @@ answer_again : IsIgnored 2 (answer 3 2 1 Proposal 0 5 ∷ recovering) (answer 3 
 unfolding the_rules
 answer_again = refl
 
-answer_after_the_put : IsIgnored 2 (answer 3 2 1 Proposal 0 5 ∷ answer 2 2 2 Proposal 0 5 ∷ recovering) (answer 1 2 9 Proposal 0 5)
+answer_after_the_put : IsIgnored 2 (answer 3 2 1 Proposal 0 5 ∷ answer 2 2 2 Proposal 0 5 ∷ recovering)
+    (answer 1 2 9 Proposal 0 5)
 unfolding the_rules
 answer_after_the_put = refl
 

@@ -1,5 +1,6 @@
--- A command on two partitions: a partition's decision is told to all processes of both, and the command's stamp waits for the
--- other's. An executor declares it once its stamp is stable, and executes it once it heard so from the other partition.
+-- A command on two partitions: a partition's decision is told to all processes of both, and the command's stamp waits
+-- for the other's. An executor declares it once its stamp is stable, and executes it once it heard so from the other
+-- partition.
 use Rattle.std.proofs.Common.{◌≡◌, ℕ, List, [], ◌∷◌, Some, None, refl}
 use Rattle.tp_ops.specs.declared.command.Command.{Command}
 use Rattle.tp_ops.specs.declared.operation.Op.TheVariants.{Put}

@@ -9,7 +9,8 @@ use Rattle.tp_topology.specs.Counting.{up_to}
 numbered : (s : ℕ) → AreNumbered one_put.commands s
 numbered s = by_test (1 == s)
   where
-    by_test : (b : Bool) → map (λ (c : Command). c.id.number) (cond b (put_a ∷ []) []) ≡ up_to (length (cond b (put_a ∷ []) []))
+    by_test : (b : Bool) →
+        map (λ (c : Command). c.id.number) (cond b (put_a ∷ []) []) ≡ up_to (length (cond b (put_a ∷ []) []))
     by_test true = refl
     by_test false = refl
 

@@ -19,7 +19,8 @@ stranger : ¬ IsLegal one_put (submission ∷ []) (entry (process_at 1 4) (OfIts
 stranger legal = let is : false ≡ true = legal.rules.known in cc
 
 -- the site has crashed
-dead : ¬ IsLegal one_put (entry (process_at 1 1) (OfItself Crash) [] ∷ submission ∷ []) (entry (process_at 1 1) (Deliver 1 1) sends)
+dead : ¬ IsLegal one_put (entry (process_at 1 1) (OfItself Crash) [] ∷ submission ∷ [])
+    (entry (process_at 1 1) (Deliver 1 1) sends)
 dead legal = let is : false ≡ true = legal.rules.live in cc
 
 -- there is no such output
@@ -38,7 +39,9 @@ not_planned legal = let is : true ≡ false = legal.plan.line in cc
 -- it was delivered as often as its fate says
 delivered : ¬ IsLegal one_put (proposal ∷ submission ∷ []) (entry (process_at 1 1) (Deliver 1 1) [])
 unfolding the_plan
-delivered legal = let left : 0 < 0 = (legal.plan.fate (message (session_of 1) (process_at 1 1) (MSubmit put_a)) refl).1 in omega arith
+delivered legal =
+    let left : 0 < 0 = (legal.plan.fate (message (session_of 1) (process_at 1 1) (MSubmit put_a)) refl).1 in
+    omega arith
 
 -- there is nothing to execute
 not_enabled : ¬ IsLegal one_put (submission ∷ []) (entry (executor_at 1 1) (OfItself (Execute (id 1 1))) [])

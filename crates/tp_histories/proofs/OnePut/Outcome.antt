@@ -1,5 +1,4 @@
--- What the run of one put comes to: each replica executed the put at stamp 1, and the client was told that there was no value
--- before. It keeps the four laws.
+-- What the run of one put comes to: each replica executes it at stamp 1, there was no value before, and the laws hold.
 use Rattle.std.proofs.Common.{◌≡◌, true, [], ◌∷◌, Some, refl}
 use Rattle.std.specs.Prelude.{reverse}
 use Rattle.tp_ops.specs.declared.operation.Answer.TheVariants.{Missing}

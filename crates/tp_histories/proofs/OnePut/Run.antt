@@ -1,5 +1,4 @@
--- The journal of one put is a run of its script, and the one that the picks choose: each entry sends what the rules say, each step
--- may be made and the plan allows it, each is the first item that is pending, and at the end nothing is.
+-- The journal of one put is a run of its script, the one that the picks choose, and at its end nothing is pending.
 use Rattle.std.proofs.Common.{◌≡◌, true, List, [], map, refl, subst}
 use Rattle.std.specs.Prelude.{reverse}
 use Rattle.tp_histories.proofs.OnePut.Journal.{one_put, one_put_journal}

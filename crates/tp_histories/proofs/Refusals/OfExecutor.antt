@@ -1,4 +1,4 @@
--- Where an executor's rule has a condition that fails, the delivery changes nothing and sends nothing. Cases of each row.
+-- Where an executor's rule has a condition that fails, a delivery changes nothing and sends nothing, case by case.
 use Rattle.std.proofs.Common.{◌≡◌, ℕ, List, [], ◌∷◌, Some, None, refl}
 use Rattle.tp_base.specs.declared.names.ActorName.{ActorName}
 use Rattle.tp_ops.specs.declared.command.Command.{Command}
@@ -55,7 +55,8 @@ promises_of_no_rank : IsIgnored [] (detached (process_at 1 4))
 promises_of_no_rank = refl
 
 -- a number told before is as before
-told_before : told_as (after (Took (detached (process_at 1 2)) ∷ Took (attached 2) ∷ [])).told 2 1 ≡ Some (Some (id 1 1))
+told_before : told_as (after (Took (detached (process_at 1 2)) ∷ Took (attached 2) ∷ [])).told 2 1
+    ≡ Some (Some (id 1 1))
 told_before = refl
 
 -- MCommitted
@@ -107,7 +108,8 @@ may_execute : enabled me (Took (attached 2) ∷ Took (attached 1) ∷ Took (comm
 unfolding the_rules
 may_execute = refl
 
-executed_once : enabled me (Did (Execute (id 1 1)) ∷ Took (attached 2) ∷ Took (attached 1) ∷ Took (committed 1) ∷ []) ≡ None
+executed_once : enabled me (Did (Execute (id 1 1)) ∷ Took (attached 2) ∷ Took (attached 1) ∷ Took (committed 1) ∷ [])
+    ≡ None
 unfolding the_rules
 executed_once = refl
 
@@ -125,11 +127,14 @@ heard_before_it_is_stable : enabled me (Took (heard 1) ∷ Took (attached 1) ∷
 unfolding the_rules
 heard_before_it_is_stable = refl
 
-heard_of_another : enabled me (Took (heard 2) ∷ Did (Declare (id 1 1)) ∷ Took (attached 2) ∷ Took (attached 1) ∷ Took both_committed ∷ []) ≡ None
+heard_of_another : enabled me (
+    Took (heard 2) ∷ Did (Declare (id 1 1)) ∷ Took (attached 2) ∷ Took (attached 1) ∷ Took both_committed ∷ []) ≡ None
 unfolding the_rules
 heard_of_another = refl
 
 -- its own partition's executors don't count for it
-heard_of_its_own : enabled me (Took (message (executor_at 1 2) (executor_at 1 1) (MStable (id 1 1))) ∷ Did (Declare (id 1 1)) ∷ Took (attached 2) ∷ Took (attached 1) ∷ Took both_committed ∷ []) ≡ None
+heard_of_its_own : enabled me (
+    Took (message (executor_at 1 2) (executor_at 1 1) (MStable (id 1 1))) ∷
+    Did (Declare (id 1 1)) ∷ Took (attached 2) ∷ Took (attached 1) ∷ Took both_committed ∷ []) ≡ None
 unfolding the_rules
 heard_of_its_own = refl

@@ -102,7 +102,8 @@ propose_without_room = refl
 -- MPayload
 payload_again : IsIgnored 2 (Took (payload 2 put_b) ∷ []) (payload 2 put_b)
 unfolding the_rules
-payload_again = ap (λ (state : ProcessState). let moved : Moved = (state, []) in moved) (same_sheet (id 1 1) (after 2 (Took (payload 2 put_b) ∷ [])))
+payload_again = ap (λ (state : ProcessState). let moved : Moved = (state, []) in moved)
+    (same_sheet (id 1 1) (after 2 (Took (payload 2 put_b) ∷ [])))
 
 -- MProposeAck
 acknowledge_unknown : IsIgnored 1 [] (acknowledge 2 1)
@@ -187,7 +188,8 @@ commit_of_no_partition = refl
 
 commit_again : IsIgnored 2 (Took (commit 2 put_b 1 1) ∷ []) (commit 2 put_b 1 9)
 unfolding the_rules
-commit_again = ap (λ (state : ProcessState). let moved : Moved = (state, []) in moved) (same_sheet (id 1 1) (after 2 (Took (commit 2 put_b 1 1) ∷ [])))
+commit_again = ap (λ (state : ProcessState). let moved : Moved = (state, []) in moved)
+    (same_sheet (id 1 1) (after 2 (Took (commit 2 put_b 1 1) ∷ [])))
 
 -- any message
 to_another : IsIgnored 2 [] (propose 3 put_b 1)

@@ -69,7 +69,8 @@ result_of_other_partition : IsIgnored submitted (result (id 1 1) 1 (Missing ∷ 
 unfolding the_rules
 result_of_other_partition = refl
 
-result_of_no_partition : IsIgnored submitted (message (executor_at 1 1) (session_of 1) (MResult (id 1 1) (partition 4) (Missing ∷ [])))
+result_of_no_partition : IsIgnored submitted
+    (message (executor_at 1 1) (session_of 1) (MResult (id 1 1) (partition 4) (Missing ∷ [])))
 unfolding the_rules
 result_of_no_partition = refl
 
@@ -82,11 +83,13 @@ unfolding the_rules
 result_of_other_session = refl
 
 -- any message
-to_another : IsIgnored submitted (message (executor_at 2 1) (session_of 2) (MResult (id 1 1) (partition 2) (Missing ∷ Missing ∷ [])))
+to_another : IsIgnored submitted
+    (message (executor_at 2 1) (session_of 2) (MResult (id 1 1) (partition 2) (Missing ∷ Missing ∷ [])))
 unfolding the_rules
 to_another = refl
 
-from_no_rank : IsIgnored submitted (message (executor_at 2 4) (session_of 1) (MResult (id 1 1) (partition 2) (Missing ∷ Missing ∷ [])))
+from_no_rank : IsIgnored submitted
+    (message (executor_at 2 4) (session_of 1) (MResult (id 1 1) (partition 2) (Missing ∷ Missing ∷ [])))
 unfolding the_rules
 from_no_rank = refl
 
@@ -107,6 +110,7 @@ answered : enabled me (Took (result (id 1 1) 3 (Missing ∷ [])) ∷ Took whole 
 unfolding the_rules
 answered = refl
 
-no_more : enabled (SessionOf shape (record client { commands = put_all ∷ [] })) (Took (result (id 1 1) 3 (Missing ∷ [])) ∷ Took whole ∷ submitted) ≡ None
+no_more : enabled (SessionOf shape (record client { commands = put_all ∷ [] }))
+    (Took (result (id 1 1) 3 (Missing ∷ [])) ∷ Took whole ∷ submitted) ≡ None
 unfolding the_rules
 no_more = refl

@@ -7,7 +7,8 @@ use Rattle.tp_rules.specs.Process.{ProcessState, with_sheet}
 use Rattle.tp_rules.specs.Sheet.{Sheet}
 use mathlib.Core.Path.{fun_ext}
 
-sheet_put_back : (sheets : CommandId → Sheet) (id other : CommandId) → cond (same_id id other) (sheets id) (sheets other) ≡ sheets other
+sheet_put_back : (sheets : CommandId → Sheet) (id other : CommandId) →
+    cond (same_id id other) (sheets id) (sheets other) ≡ sheets other
 sheet_put_back sheets id other = by_test (same_id id other) refl
   where
     by_test : (b : Bool) → same_id id other ≡ b → cond b (sheets id) (sheets other) ≡ sheets other

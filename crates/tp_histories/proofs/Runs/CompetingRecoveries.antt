@@ -1,5 +1,5 @@
--- The run in which two replicas recover the put of a home that crashed, from its steps: both that live execute it at the stamp that
--- the home proposed. It keeps the four laws.
+-- The run in which two replicas recover the put of a home that crashed. Both execute it at the stamp that the home
+-- proposed, and the four laws hold.
 use Rattle.std.proofs.Common.{◌≡◌, true, List, [], ◌∷◌, Some, refl, subst}
 use Rattle.tp_ops.specs.declared.operation.Answer.TheVariants.{Missing}
 use Rattle.tp_histories.proofs.LawTests.{lawful_by_tests, passes}

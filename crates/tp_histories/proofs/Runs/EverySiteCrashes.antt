@@ -1,5 +1,5 @@
--- The run in which every site crashes before its process makes an entry, from its steps: the submission is all that comes besides,
--- and nobody takes the command. It keeps the four laws.
+-- The run in which every site crashes before its process makes an entry: the put is submitted, and nobody takes it.
+-- The four laws hold.
 use Rattle.std.proofs.Common.{◌≡◌, true, List, [], ◌∷◌, None, refl, subst}
 use Rattle.tp_histories.proofs.LawTests.{lawful_by_tests, passes}
 use Rattle.tp_histories.proofs.OnePut.Journal.{one_put}

@@ -1,5 +1,4 @@
--- The run in which the home recovers its own put, from its steps: the stamp is decided by votes at the home's own ballot.
--- It keeps the four laws.
+-- The run in which the home recovers its own put. All three replicas execute it at stamp 1, and the four laws hold.
 use Rattle.std.proofs.Common.{◌≡◌, true, List, [], ◌∷◌, Some, refl, subst}
 use Rattle.tp_ops.specs.declared.operation.Answer.TheVariants.{Missing}
 use Rattle.tp_histories.proofs.LawTests.{lawful_by_tests, passes}

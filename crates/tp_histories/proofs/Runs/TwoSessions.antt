@@ -1,5 +1,5 @@
--- A free run of two partitions and two sessions, from its steps: a put on both partitions, and once it is answered, a get on the
--- second by another session, which reads what was put. It keeps the four laws.
+-- A free run of two partitions and two sessions: a put on both partitions, and once it is answered, a get on the second
+-- by another session, which reads what was put. The four laws hold.
 use Rattle.std.proofs.Common.{◌≡◌, true, List, [], ◌∷◌, Some, refl}
 use Rattle.tp_ops.specs.declared.operation.Answer.TheVariants.{Missing, Value}
 use Rattle.tp_ops.specs.declared.operation.Op.TheVariants.{Put, Get}
