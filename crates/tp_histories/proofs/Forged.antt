@@ -4,14 +4,14 @@ use Rattle.std.specs.Prelude.{reverse}
 use Rattle.tp_base.specs.Lists.{IsPrefixOf, has}
 use Rattle.tp_base.specs.Names.{same_id}
 use Rattle.tp_base.specs.declared.names.CommandId.{CommandId}
-use Rattle.tp_histories.proofs.Words.{process_at, executor_at, session_of, partition, rank, stamp, id, command, entry, the_rules}
+use Rattle.tp_histories.proofs.Words.{commit_at, process_at, executor_at, session_of, partition, rank, stamp, id, command, entry, the_rules}
 use Rattle.tp_ops.specs.declared.command.Command.{Command}
 use Rattle.tp_ops.specs.declared.operation.Answer.{Answer}
 use Rattle.tp_ops.specs.declared.operation.Answer.TheVariants.{Missing, Value}
 use Rattle.tp_ops.specs.declared.operation.Op.TheVariants.{Put}
 use Rattle.tp_rules.specs.Addresses.{message, site}
 use Rattle.tp_rules.specs.Laws.{CommitsAgree, LineKeepsRealTime, LineOrders, RepliesAreSequential}
-use Rattle.tp_rules.specs.Outcome.{sequential_answers, share}
+use Rattle.tp_rules.specs.Outcome.{Commit, sequential_answers, share}
 use Rattle.tp_rules.specs.declared.event.Entry.{Entry}
 use Rattle.tp_rules.specs.declared.event.Event.TheVariants.{Deliver, Inner as OfItself}
 use Rattle.tp_rules.specs.declared.event.Inner.TheVariants.{Announce, Execute, Submit}
@@ -49,8 +49,9 @@ two_commands same = let sessions : ◌≡◌ {A = ℕ} 2 1 = ap (λ (i : Command
 two_stamps : ¬ CommitsAgree (reverse (commits_at 1 1 1 ∷ commits_at 2 1 2 ∷ []))
 unfolding CommitsAgree
 two_stamps agree =
-    let same : ◌≡◌ {A = ℕ} 1 2 = agree (record { site = site 1 1; id = id 1 1; stamp = 1 })
-    (record { site = site 1 2; id = id 1 1; stamp = 2 }) (inl refl) (inr (inl refl)) refl in
+    let first : Commit = commit_at 1 1 (id 1 1) 1 in
+    let second : Commit = commit_at 1 2 (id 1 1) 2 in
+    let same : first.stamp ≡ second.stamp = agree first second (inl refl) (inr (inl refl)) refl in
     omega arith
 
 abbrev both_committed : List Entry
@@ -95,6 +96,6 @@ other_reply : ¬ RepliesAreSequential two_puts
     (reverse (answers 1 (Value (49 ∷ [])) ∷ entry (session_of 1) (Deliver 1 1) [] ∷ []))
 unfolding RepliesAreSequential sequential_answers the_rules
 other_reply sequential =
-    let same : ◌≡◌ {A = List Answer} (Value (49 ∷ []) ∷ []) (Missing ∷ []) =
-    (sequential (id 1 1) (Value (49 ∷ []) ∷ []) refl).1 in
+    let reply : List Answer = Value (49 ∷ []) ∷ [] in
+    let same : reply ≡ Missing ∷ [] = (sequential (id 1 1) reply refl).1 in
     cc

@@ -13,7 +13,7 @@ use Rattle.tp_rules.specs.Sheet.{Sheet, ring_setting, final_stamp}
 use Rattle.tp_ops.specs.declared.operation.Answer.TheVariants.{Missing}
 use Rattle.tp_rules.specs.declared.event.Inner.TheVariants.{Declare, Execute}
 use Rattle.tp_topology.specs.Shape.{Shape}
-use Rattle.tp_wire.specs.declared.message.Body.TheVariants.{MSubmit, MPropose, MPayload, MProposeAck, MBump, MCommit, MPromises, MCommitted, MStable, MResult}
+use Rattle.tp_wire.specs.declared.message.Body.TheVariants.{MSubmit, MPropose, MPayload, MProposeAck, MBump, MCommit, MRec, MPromises, MCommitted, MStable, MResult}
 
 abbrev two : Shape
 two = record { partitions = 2; replicas = 3; failures = 1 }
@@ -56,6 +56,24 @@ sheet = (state_after (ring_setting two) (site 1 1) (acknowledged ∷ submitted �
 no_stamp_yet : final_stamp two sheet sheet.command ≡ None
 unfolding the_rules
 no_stamp_yet = refl
+
+-- a recovery that asks for it then is told so, and nobody else is; the other partition's stamp is still awaited
+
+abbrev recovery : Act
+recovery = Took (message (process_at 1 3) (process_at 1 1) (MRec put_both 6))
+
+told_alone : outputs_of home (acknowledged ∷ submitted ∷ []) recovery
+    ≡ message (process_at 1 1) (process_at 1 3) (MCommit put_both (partition 1) (stamp 1)) ∷ []
+unfolding the_rules
+told_alone = refl
+
+abbrev asked_sheet : Sheet
+asked_sheet =
+    (state_after (ring_setting two) (site 1 1) (recovery ∷ acknowledged ∷ submitted ∷ [])).sheets (id 1 1)
+
+still_no_stamp : final_stamp two asked_sheet asked_sheet.command ≡ None
+unfolding the_rules
+still_no_stamp = refl
 
 -- the executor of partition 1's rank 1
 abbrev me : Identity
