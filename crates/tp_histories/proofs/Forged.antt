@@ -1,8 +1,7 @@
 -- Journals that the four laws refuse, each as small as can be. Their entries needn't follow any rule.
 use Rattle.std.proofs.Common.{◌≡◌, ℕ, true, false, List, [], ◌∷◌, ◌++◌, inl, inr, refl, ap, arith}
 use Rattle.std.specs.Prelude.{reverse}
-use Rattle.tp_base.specs.Lists.{IsPrefixOf, has}
-use Rattle.tp_base.specs.Names.{same_id}
+use Rattle.tp_base.specs.Lists.{IsPrefixOf}
 use Rattle.tp_base.specs.declared.names.CommandId.{CommandId}
 use Rattle.tp_histories.proofs.Words.{commit_at, process_at, executor_at, session_of, partition, rank, stamp, id, command, entry, the_rules}
 use Rattle.tp_ops.specs.declared.command.Command.{Command}
@@ -80,16 +79,7 @@ late_in_line : ¬ LineKeepsRealTime two_puts (reverse (
     executes 1 2 ∷ answers 1 Missing ∷
     entry (session_of 1) (Deliver 2 1) [] ∷ entry (session_of 2) (OfItself (Submit 1)) [] ∷ []))
 unfolding LineKeepsRealTime the_rules
-late_in_line real_time =
-    let before = real_time (id 1 1) (id 2 1) refl refl in
-    not_before before.0 before.1 before.2 before.3
-  where
-    not_before : (before rest : List CommandId) → id 2 1 ∷ id 1 1 ∷ [] ≡ before ++ id 2 1 ∷ rest →
-        has same_id (id 1 1) before ≡ true → ⊥
-    not_before [] rest split there = cc
-    not_before (x ∷ []) rest split there = two_commands cc
-    not_before (x ∷ y ∷ []) rest split there = let none : ◌≡◌ {A = List CommandId} [] (id 2 1 ∷ rest) = cc in cc
-    not_before (x ∷ y ∷ z ∷ more) rest split there = let none : [] ≡ z ∷ (more ++ id 2 1 ∷ rest) = cc in cc
+late_in_line real_time = let before : false ≡ true = real_time (id 1 1) (id 2 1) refl refl in cc
 
 -- a value before the first put, where there was none
 other_reply : ¬ RepliesAreSequential two_puts

@@ -5,7 +5,7 @@ use Rattle.std.specs.List.{list_all, list_any}
 use Rattle.std.specs.Prelude.{find, is_some}
 use Rattle.tp_base.proofs.Each.{each_in}
 use Rattle.tp_base.proofs.Members.{has_in}
-use Rattle.tp_base.proofs.SameNames.{same_id_is, same_id_sym}
+use Rattle.tp_base.proofs.SameNames.{same_id_is}
 use Rattle.tp_base.specs.Lists.{Ascends, Each, has, IsIn, IsPrefixOf}
 use Rattle.tp_base.specs.Names.{key_lt, same_id}
 use Rattle.tp_base.specs.declared.names.CommandId.{CommandId}
@@ -216,26 +216,6 @@ keeps_order script older c d = not (precedes script older c d) || stands_before 
 abbrev pub keeps_real_time : Script → List Entry → Bool
 keeps_real_time script older = list_all (λ c. list_all (keeps_order script older c.id) (line older)) script.commands
 
-parted : (d : CommandId) (ids : List CommandId) → has same_id d ids ≡ true →
-    (rest : List CommandId) × (ids ≡ those_before d ids ++ d ∷ rest)
-parted d [] h = absurd cc
-parted d (x ∷ xs) h = elim (cases_Bool (same_id x d)) [
-  | inl t ↦
-      let same : x ≡ d = same_id_is x d t in
-      let none : those_before d (x ∷ xs) ≡ [] = cond-true (same_id x d) [] (x ∷ those_before d xs) t in
-      (xs, cc)
-  | inr f ↦
-      let rest = parted d xs (later (same_id d x) (has same_id d xs) (same_id_sym d x ∙ f) h) in
-      let more : those_before d (x ∷ xs) ≡ x ∷ those_before d xs =
-      cond-false (same_id x d) [] (x ∷ those_before d xs) f in
-      let there : xs ≡ those_before d xs ++ d ∷ rest.0 = rest.1 in
-      (rest.0, ap (λ (l : List CommandId). x ∷ l) there ∙ ap (λ (l : List CommandId). l ++ d ∷ rest.0) (sym more))
-]
-  where
-    later : (a b : Bool) → a ≡ false → a || b ≡ true → b ≡ true
-    later true b e f = absurd cc
-    later false b e f = f
-
 preceding_there : (script : Script) (older : List Entry) (c d : CommandId) → precedes script older c d ≡ true →
     (x : Command) × IsIn x script.commands × (x.id ≡ c)
 preceding_there script [] c d h = absurd cc
@@ -256,10 +236,8 @@ real_time_is script older test c d before there =
     all_in (λ (y : Command). list_all (keeps_order script older y.id) (line older)) script.commands x.0 test x.1 in
     let kept : keeps_order script older x.0.id d ≡ true =
     all_in (keeps_order script older x.0.id) (line older) d of_x in_line in
-    let stands : stands_before c d (line older) ≡ true = ordered (precedes script older c d) _ before
-    (subst (λ (id : CommandId). keeps_order script older id d ≡ true) x.2 kept) in
-    let parts = parted d (line older) there in
-    (those_before d (line older), parts.0, parts.1, stands)
+    ordered (precedes script older c d) (stands_before c d (line older)) before
+    (subst (λ (id : CommandId). keeps_order script older id d ≡ true) x.2 kept)
   where
     ordered : (a b : Bool) → a ≡ true → not a || b ≡ true → b ≡ true
     ordered true b e f = f
