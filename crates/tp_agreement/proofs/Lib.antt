@@ -1,5 +1,13 @@
+pub mod Sizes
 pub mod Counting
-pub mod Decisions
 pub mod Moment
+pub mod Acknowledgements
+pub mod RecoveryAnswers
+pub mod SlowPath
+pub mod FastPath
+pub mod Attached
+pub mod Decisions
+pub mod LaterMoments
+pub mod KnownStamps
+pub mod Commits
 pub mod Settles
-pub mod Stays

@@ -11,7 +11,8 @@ use Rattle.tp_base.specs.Names.{key_lt, same_id}
 use Rattle.tp_base.specs.declared.names.CommandId.{CommandId}
 use Rattle.tp_base.specs.declared.names.Key.{Key}
 use Rattle.tp_base.specs.declared.names.Site.{Site}
-use Rattle.tp_facts.proofs.Accessed.{accesses_within, all_in, any_in}
+use Rattle.tp_facts.proofs.Commands.{accesses_within}
+use Rattle.tp_facts.proofs.Tables.{all_in, any_in}
 use Rattle.tp_ops.specs.declared.command.Command.{Command}
 use Rattle.tp_ops.specs.declared.operation.Answer.{Answer}
 use Rattle.tp_rules.proofs.UpTo.{in_up_to}

@@ -19,9 +19,8 @@ use Rattle.tp_script.specs.declared.script.Script.{Script}
 use Rattle.tp_topology.specs.Stability.{Telling, attached_to, is_stable}
 use Rattle.tp_rules.proofs.Provenance.{IsOf, committed_provenance}
 use Rattle.tp_rules.proofs.Unexecuted.{executor_of}
-use Rattle.tp_facts.proofs.Accessed.{accesses_within}
-use Rattle.tp_facts.proofs.One.{command_is}
-use Rattle.tp_facts.proofs.Sent.{acts_were_sent}
+use Rattle.tp_facts.proofs.Commands.{accesses_within, command_is}
+use Rattle.tp_facts.proofs.Deliveries.{acts_were_sent}
 use Rattle.tp_facts.specs.Settled.{Settled, is_proposed, sheet_at}
 use Rattle.tp_order.proofs.Knowledge.{KnowsByMessages, PromisesMessage, CommittedMessage, knows_by_messages}
 use Rattle.tp_order.proofs.SentCommits.{sent_is_commit}

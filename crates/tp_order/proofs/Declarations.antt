@@ -31,9 +31,10 @@ use Rattle.tp_rules.proofs.SendsOfProcess.{each_to}
 use Rattle.tp_rules.proofs.Tallies.{in_filter}
 use Rattle.tp_rules.proofs.Unexecuted.{executor_of, executor_remembers}
 use Rattle.tp_rules.proofs.UpTo.{in_up_to}
-use Rattle.tp_facts.proofs.Accessed.{any_in, all_in, accessed_from}
-use Rattle.tp_facts.proofs.Senders.{may_send, by_whom}
-use Rattle.tp_facts.proofs.Sent.{acts_were_sent}
+use Rattle.tp_facts.proofs.Commands.{accessed_from}
+use Rattle.tp_facts.proofs.Tables.{any_in, all_in}
+use Rattle.tp_facts.proofs.Senders.{may_send, output_sender}
+use Rattle.tp_facts.proofs.Deliveries.{acts_were_sent}
 use Rattle.tp_order.proofs.Knowledge.{StableMessage, knows_by_messages}
 use Rattle.tp_rules.specs.Executor as executor
 
@@ -93,7 +94,7 @@ sender_has_declared script (e ∷ older) m id history (inr before) body =
       is_declared = (executor_remembers script older e old.by).declared id old.is_declared;
     }
 sender_has_declared script (e ∷ older) m id history (inl here) body =
-    let whom = by_whom script older e m history.1 here in
+    let whom = output_sender script older e m history.1 here in
     let by = only_executors_declare e.actor id (sym (ap (may_send e.actor) body) ∙ whom.1) in
     let from : m.from ≡ Executor by.0 = whom.0 ∙ by.1 in
     let output = subst (λ (a : ActorName). IsIn m (outputs_by script older a (act_of older e.event))) by.1

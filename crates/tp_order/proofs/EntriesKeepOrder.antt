@@ -11,7 +11,7 @@ use Rattle.tp_rules.specs.Runs.{IsFreeHistory}
 use Rattle.tp_rules.specs.declared.event.Entry.{Entry}
 use Rattle.tp_script.specs.Accepted.{IsAccepted}
 use Rattle.tp_script.specs.declared.script.Script.{Script}
-use Rattle.tp_facts.proofs.One.{command_is}
+use Rattle.tp_facts.proofs.Commands.{command_is}
 use Rattle.tp_facts.specs.Settled.{Settled}
 use Rattle.tp_order.proofs.Declarations.{executable_is_declared}
 use Rattle.tp_order.proofs.DeclaredOrExecuted.{IsDeclaredOrExecuted, quiet_adds_none, declaration_adds_one, execution_adds_one}

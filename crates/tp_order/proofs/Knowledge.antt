@@ -17,7 +17,7 @@ use Rattle.tp_topology.specs.Stability.{Telling}
 use Rattle.tp_wire.specs.declared.message.Body.{Body}
 use Rattle.tp_wire.specs.declared.message.Body.TheVariants.{MPromises, MCommitted, MStable}
 use Rattle.tp_wire.specs.declared.message.Message.{Message}
-use Rattle.tp_facts.proofs.Sent.{Takes}
+use Rattle.tp_facts.proofs.Deliveries.{Takes}
 use Rattle.tp_rules.specs.Executor as executor
 
 -- P is what holds of each message that the executor took

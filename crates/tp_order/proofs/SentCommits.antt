@@ -16,7 +16,7 @@ use Rattle.tp_rules.specs.declared.event.Entry.{Entry}
 use Rattle.tp_script.specs.declared.script.Script.{Script}
 use Rattle.tp_wire.specs.declared.message.Body.TheVariants.{MCommitted}
 use Rattle.tp_wire.specs.declared.message.Message.{Message}
-use Rattle.tp_facts.proofs.Senders.{may_send, by_whom}
+use Rattle.tp_facts.proofs.Senders.{may_send, output_sender}
 
 in_filter_map : {X Y : Type 0} (f : X → Option Y) (xs : List X) (x : X) (y : Y) → IsIn x xs → f x ≡ Some y →
     IsIn y (filter_map f xs)
@@ -50,7 +50,7 @@ pub sent_is_commit : (script : Script) (older : List Entry) (m : Message) (c : C
     IsFreeHistory script older → IsSent older m → m.body ≡ MCommitted c t → CommitOf older c t
 sent_is_commit script [] m c t history sent body = absurd sent
 sent_is_commit script (e ∷ older) m c t history (inl here) body =
-    let whom = by_whom script older e m history.1 here in
+    let whom = output_sender script older e m history.1 here in
     let by = only_processes_commit e.actor c t (sym (ap (may_send e.actor) body) ∙ whom.1) in
     let commit : Commit = record { site = by.0; id = c.id; stamp = t.0 } in
     let is : commit_by e.actor m.body ≡ Some commit =

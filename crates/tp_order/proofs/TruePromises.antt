@@ -20,12 +20,10 @@ use Rattle.tp_script.specs.declared.script.Script.{Script}
 use Rattle.tp_topology.specs.Stability.{attached_to}
 use Rattle.tp_wire.specs.declared.message.Body.TheVariants.{MPromises}
 use Rattle.tp_wire.specs.declared.message.Message.{Message}
-use Rattle.tp_facts.proofs.Cross.{Held}
-use Rattle.tp_facts.proofs.One.{command_in, one_each}
-use Rattle.tp_facts.proofs.Peers.{IsOfProcess, sender_of}
-use Rattle.tp_facts.proofs.Runs.{run_holds}
-use Rattle.tp_facts.proofs.Sent.{sent_process}
-use Rattle.tp_facts.proofs.Uses.{owner_of_proposal, telling_of}
+use Rattle.tp_facts.proofs.RunFacts.{FactsAt, run_holds}
+use Rattle.tp_facts.proofs.Commands.{command_in, command_in_names}
+use Rattle.tp_facts.proofs.Senders.{IsOfProcess, sender_of, sent_by_process}
+use Rattle.tp_facts.proofs.Consequences.{owner_of_proposal, telling_of}
 use Rattle.tp_facts.specs.Settled.{is_proposed, sheet_at}
 use Rattle.tp_order.proofs.Stability.{AttachedPromise}
 use Rattle.tp_order.specs.Due.{final_owner}
@@ -52,8 +50,8 @@ module _ (script : Script) (accepted : IsAccepted script) (whole : List Entry)
       attached_to pairs n ≡ final_owner script whole (partition_of m.from) (rank_of m.from) n
   told_promises_are_true m lo hi pairs sent body n above within =
       let by = sender_of script whole history m sent (subst IsOfProcess (sym body) tt) in
-      let one = one_each script accepted in
-      let own = sent_process script of accepted one whole history by.site m sent by.from in
+      let one = command_in_names script accepted in
+      let own = sent_by_process script whole history by.site m sent by.from in
       let holds = run_holds script of accepted one whole history by.site by.known in
       let told = telling_of holds m lo hi n pairs own body above within in
       told.1 ∙ ap (λ (a : ActorName). final_owner script whole (partition_of a) (rank_of a) n) (sym by.from)
@@ -65,9 +63,9 @@ module _ (script : Script) (accepted : IsAccepted script) (whole : List Entry)
       AttachedPromise (final_owner script whole p rank) id stamp
   proposal_is_attached p rank partition_known rank_known id stamp is =
       let found = proposed_stamp (sheet_at script whole p rank id).proposal stamp is in
-      let one = one_each script accepted in
+      let one = command_in_names script accepted in
       let known = site_known script.topology p rank partition_known rank_known in
-      let held : Held script of accepted one whole history (site p rank) =
+      let held : FactsAt script of whole (site p rank) =
       run_holds script of accepted one whole history (site p rank) known in
       record {
         number = found.0.stamp;

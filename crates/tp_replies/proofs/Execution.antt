@@ -8,7 +8,7 @@ use Rattle.tp_base.proofs.Each.{each_in}
 use Rattle.tp_base.specs.declared.names.ActorName.TheVariants.{Executor}
 use Rattle.tp_base.specs.declared.names.CommandId.{CommandId}
 use Rattle.tp_base.specs.declared.names.Site.{Site}
-use Rattle.tp_facts.proofs.One.{command_is}
+use Rattle.tp_facts.proofs.Commands.{command_is}
 use Rattle.tp_rules.specs.Executor as executor
 use Rattle.tp_rules.specs.Outcome.{command_of}
 use Rattle.tp_rules.specs.Runs.{IsFreeHistory, MayHappen}

@@ -10,8 +10,8 @@ use Rattle.tp_base.specs.declared.names.ActorName.{ActorName}
 use Rattle.tp_base.specs.declared.names.ActorName.TheVariants.{Session}
 use Rattle.tp_base.specs.declared.names.CommandId.{CommandId}
 use Rattle.tp_base.specs.declared.names.PartitionId.{PartitionId}
-use Rattle.tp_facts.proofs.Accessed.{accessed_from}
-use Rattle.tp_facts.proofs.Sent.{output_is_sent}
+use Rattle.tp_facts.proofs.Commands.{accessed_from}
+use Rattle.tp_facts.proofs.Deliveries.{output_is_sent}
 use Rattle.tp_facts.proofs.Tables.{kept_here}
 use Rattle.tp_ops.specs.declared.command.Command.{Command}
 use Rattle.tp_ops.specs.declared.operation.Answer.{Answer}

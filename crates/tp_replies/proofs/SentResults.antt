@@ -13,7 +13,7 @@ use Rattle.tp_base.specs.declared.names.ActorName.TheVariants.{Process, Executor
 use Rattle.tp_base.specs.declared.names.CommandId.{CommandId}
 use Rattle.tp_base.specs.declared.names.PartitionId.{PartitionId}
 use Rattle.tp_base.specs.declared.names.Site.{Site}
-use Rattle.tp_facts.proofs.Senders.{by_whom, may_send}
+use Rattle.tp_facts.proofs.Senders.{output_sender, may_send}
 use Rattle.tp_ops.specs.declared.command.Command.{Command}
 use Rattle.tp_ops.specs.declared.operation.Answer.{Answer}
 use Rattle.tp_ops.specs.Parts.{ops_on}
@@ -163,7 +163,7 @@ module _ (script : Script) (accepted : IsAccepted script) (m : Message) (id : Co
   result_is (e ∷ older) history (inr there) =
       result_later script older e m.from id p.0 answers (result_is older history.0 there)
   result_is (e ∷ older) history (inl there) =
-      let by = by_whom script older e m history.1 there in
+      let by = output_sender script older e m history.1 there in
       subst (λ (a : ActorName). IsResult script (e ∷ older) a id p.0 answers) (sym by.0)
       (by_actor e.actor refl (subst (λ (b : Body). may_send e.actor b ≡ true) body by.1))
     where

@@ -9,7 +9,7 @@ use Rattle.tp_base.proofs.Members.{get_in, in_get}
 use Rattle.tp_base.proofs.SameNames.{same_id_is}
 use Rattle.tp_base.specs.declared.names.CommandId.{CommandId}
 use Rattle.tp_base.specs.declared.names.SessionId.{SessionId}
-use Rattle.tp_facts.proofs.One.{command_is}
+use Rattle.tp_facts.proofs.Commands.{command_is}
 use Rattle.tp_ops.specs.declared.command.Command.{Command}
 use Rattle.tp_rules.specs.Journal.{commands_of}
 use Rattle.tp_rules.specs.Outcome.{command_of}
