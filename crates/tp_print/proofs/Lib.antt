@@ -1,8 +1,12 @@
-pub mod Commits
+pub mod FirstTold
+pub mod KeptFirst
 pub mod Lines
 pub mod Looking
+pub mod Merged
 pub mod Numbered
+pub mod Placing
+pub mod Rows
+pub mod Commits
 pub mod Recording
-pub mod Replaying
+pub mod Records
 pub mod Reporting
-pub mod Tabled

@@ -1,5 +1,5 @@
 -- Texts that go on word by word, line by line.
-use Rattle.std.proofs.Common.{◌≡◌, ℕ, suc, ◌+◌, ◌<◌, ◌≤◌, List, [], ◌∷◌, ◌++◌, length, get_or, take, map, sym, ap, ◌∙◌, append_assoc, arith}
+use Rattle.std.proofs.Common.{◌≡◌, ℕ, suc, ◌+◌, ◌<◌, ◌≤◌, List, [], ◌∷◌, ◌++◌, length, get_or, take, map, sym, subst, ap, ◌∙◌, append_assoc, arith}
 use Rattle.std.specs.List.{flat_map}
 use Rattle.std.proofs.lemmas.List.{append-nil, take_all, take_more}
 use Rattle.std.proofs.lemmas.Grind.{flat_map-append}
@@ -37,3 +37,7 @@ count_more f out now new i before here =
 
 pub count_whole : (f : ℕ → List ℕ) (out now : List ℕ) (i n : ℕ) → i ≡ n → now ≡ out ++ flat_map f (up_to i) → now ≡ out ++ flat_map f (up_to n)
 count_whole f out now i n same before = before ∙ ap (λ (k : ℕ). out ++ flat_map f (up_to k)) same
+
+-- one item more of a list that is gone through
+pub take_next : {X : Type 0} (P : List X → Type 0) (xs : List X) (i : ℕ) (x : X) → i < length xs → x ≡ get_or xs i x → P (take i xs ++ x ∷ []) → P (take (i + 1) xs)
+take_next P xs i x lt is h = subst P (ap (λ y. take i xs ++ y ∷ []) is ∙ sym (take_more xs i x lt)) h

@@ -8,10 +8,6 @@ use Rattle.std.proofs.lemmas.List.Elements.{filter-append}
 use Rattle.tp_ops.specs.declared.command.Command.{Command}
 use Rattle.tp_topology.specs.Counting.{up_to}
 
-pub length-up_to : (n : ℕ) → length (up_to n) ≡ n
-length-up_to zero = refl
-length-up_to (suc n) = length-append (up_to n) (suc n ∷ []) ∙ (omega (arith, length-up_to n))
-
 filter_one : (b : Bool) (x : ℕ) → length (cond b (x ∷ []) []) ≡ cond b 1 0
 filter_one true x = refl
 filter_one false x = refl
@@ -25,18 +21,6 @@ filter_more p n =
     ∙ length-append (filter p (up_to n)) (filter p (suc n ∷ []))
     ∙ ap (λ (k : ℕ). length (filter p (up_to n)) + k) (filter_one (p (suc n)) (suc n))
     ∙ ap (λ (k : ℕ). length (filter p (up_to n)) + cond (p k) 1 0) (sym next)
-
-pub length-filter : {X : Type 0} (p : X → Bool) (xs : List X) → length (filter p xs) ≤ length xs
-length-filter p [] = omega arith
-length-filter p (x ∷ xs) = by (p x) (length-filter p xs)
-  where
-    by : (b : Bool) → length (filter p xs) ≤ length xs → length (cond b (x ∷ filter p xs) (filter p xs)) ≤ suc (length xs)
-    by true le = omega arith
-    by false le = omega arith
-
-pub length-flat_map-le : {X A B : Type 0} (f : X → List A) (g : X → List B) (xs : List X) → ((x : X) → length (f x) ≤ length (g x)) → length (flat_map f xs) ≤ length (flat_map g xs)
-length-flat_map-le f g [] le = omega arith
-length-flat_map-le f g (x ∷ xs) le = omega (arith, length-append (f x) (flat_map f xs), length-append (g x) (flat_map g xs), le x, length-flat_map-le f g xs le)
 
 pub length-flat_map-same : {X A B : Type 0} (f : X → List A) (g : X → List B) (xs : List X) → ((x : X) → length (f x) ≡ length (g x)) → length (flat_map f xs) ≡ length (flat_map g xs)
 length-flat_map-same f g [] same = refl

@@ -1,7 +1,7 @@
 -- The record of a site goes on with each entry of a journal.
-use Rattle.std.proofs.Common.{◌≡◌, ℕ, ◌≤◌, ◌<◌, ◌+◌, Bool, true, false, cond, ◌||◌, ◌&&◌, List, [], ◌∷◌, ◌++◌, length, get_or, take, Option, Some, refl, sym, ap, subst, ◌∙◌}
+use Rattle.std.proofs.Common.{◌≡◌, ℕ, ◌<◌, ◌+◌, Bool, true, false, cond, ◌||◌, ◌&&◌, List, [], ◌∷◌, ◌++◌, length, get_or, take, Option, Some, refl, sym, ap, subst, ◌∙◌}
 use Rattle.std.specs.Prelude.{codes, map, reverse, unwrap_or}
-use Rattle.std.proofs.lemmas.List.{take_all, take_more}
+use Rattle.std.proofs.lemmas.List.{take_more}
 use Rattle.indexmap.specs.IndexMap.{get}
 use Rattle.tp_base.proofs.Ends.{reverse_push}
 use Rattle.tp_base.specs.Names.{same_id, same_name}
@@ -74,9 +74,6 @@ other_noted older s e r h process executor = record {
 -- a journal in its own order, by the number of its entries that are gone through
 pub reverse_more : {X : Type 0} (P : List X → Type 0) (xs : List X) (i : ℕ) (d : X) → i < length xs → P (get_or xs i d ∷ reverse (take i xs)) → P (reverse (take (i + 1) xs))
 reverse_more P xs i d lt h = subst P (sym (ap reverse (take_more xs i d lt) ∙ reverse_push (take i xs) (get_or xs i d))) h
-
-pub reverse_whole : {X : Type 0} (P : List X → Type 0) (xs : List X) (i : ℕ) → length xs ≤ i → P (reverse (take i xs)) → P (reverse xs)
-reverse_whole P xs i le h = subst P (ap reverse (take_all i xs le)) h
 
 stamp_in_is : (cs : List Commit) (id : CommandId) → unwrap_or (first_stamp cs id) 0 ≡ stamp_in cs id
 stamp_in_is [] id = refl

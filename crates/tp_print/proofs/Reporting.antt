@@ -1,18 +1,16 @@
 -- The lines of a report, session by session and site by site.
-use Rattle.std.proofs.Common.{◌≡◌, ℕ, ◌≤◌, List, [], ◌∷◌, ◌++◌, length, append_assoc, refl, sym, ap, ◌∙◌, arith}
+use Rattle.std.proofs.Common.{◌≡◌, ℕ, List, [], ◌∷◌, ◌++◌, length, append_assoc, sym, ap, ◌∙◌}
 use Rattle.std.specs.List.{flat_map}
 use Rattle.std.specs.Fmt.{decimal}
 use Rattle.std.specs.Prelude.{codes, filter, is_none, map, reverse}
 use Rattle.std.proofs.lemmas.List.{append-nil}
 use Rattle.std.proofs.lemmas.List.Folds.{flat_map-map}
 use Rattle.tp_base.specs.declared.names.CommandId.{CommandId}
-use Rattle.tp_print.proofs.Numbered.{counted_few, filter_flat, flat_map_flat, length-filter, length-filter_map, length-flat_map-le, length-flat_map-same, length-up_to, of_session}
-use Rattle.tp_ops.specs.declared.command.Command.{Command}
-use Rattle.tp_print.specs.Replay.{IsClient}
+use Rattle.tp_print.proofs.Numbered.{filter_flat, flat_map_flat, length-filter_map, length-flat_map-same}
 use Rattle.tp_print.specs.Replies.{lines_of, numbers_of, open_of}
 use Rattle.tp_print.specs.Report.{id_of, id_word, ids_of, open_count, order_line, order_lines, reply_line, reply_lines, report_text, spaced, text_line}
 use Rattle.tp_rules.specs.Addresses.{site}
-use Rattle.tp_rules.specs.Journal.{client_of, commands_of, ranks_of}
+use Rattle.tp_rules.specs.Journal.{ranks_of}
 use Rattle.tp_rules.specs.Outcome.{line, reply_to}
 use Rattle.tp_rules.specs.declared.event.Entry.{Entry}
 use Rattle.tp_script.specs.declared.script.Script.{Script}
@@ -36,33 +34,21 @@ order_lines_are script older =
     sym (flat_map_flat (order_line older) (ranks_of script) (up_to script.topology.partitions)
     ∙ (λ j. flat_map (λ p. flat_map-map (order_line older) (site p) (up_to script.topology.replicas) j) (up_to script.topology.partitions)))
 
--- no more commands are open than there are
-pub open_few : (script : Script) (older : List Entry) (k : ℕ) → length (flat_map (open_of script older) (up_to k)) ≤ length script.commands
-open_few script older k =
-    omega (arith, counted_few script.commands k, length-flat_map-le (open_of script older) (of_session script.commands) (up_to k) (λ s. few s))
-  where
-    few : (s : ℕ) → length (open_of script older s) ≤ length (of_session script.commands s)
-    few s = omega (arith, length-filter (λ (n : ℕ). is_none (reply_to script older (id_of s n))) (numbers_of script s), length-up_to (length (of_session script.commands s)))
-
--- the session of a number, as the script makes it
-pub client_is : (script : Script) (s : ℕ) (cs : List Command) → cs ≡ commands_of script (record { 0 = s }) → IsClient s cs (client_of script (record { 0 = s }))
-client_is script s cs e = record { session = refl; commands = sym e }
-
 last_lines : (before first word last : List ℕ) → ((before ++ first) ++ word) ++ 10 ∷ last ≡ (before ++ ((first ++ (word ++ [])) ++ 10 ∷ [])) ++ last
 last_lines before first word last = simp (append_assoc, append-nil)
 
 -- the report, as it is written
-pub report_is : (script : Script) (journal : List Entry) (n : ℕ) (a b c d e f g : List ℕ) → n ≡ length (flat_map (open_of script (reverse journal)) (up_to (length script.homes)))
+pub report_is : (script : Script) (journal : List Entry) (n : ℕ) (a b c d e f g : List ℕ) → n ≡ open_count script (reverse journal)
     → a ≡ text_line (codes "report") (codes "1" ∷ [])
-    → b ≡ a ++ flat_map (lines_of script (reverse journal)) (up_to (length script.homes))
-    → c ≡ b ++ flat_map (λ p. flat_map (λ k. order_line (reverse journal) (site p k)) (up_to script.topology.replicas)) (up_to script.topology.partitions)
+    → b ≡ a ++ reply_lines script (reverse journal)
+    → c ≡ b ++ order_lines script (reverse journal)
     → d ≡ c ++ text_line (codes "line") (map id_word (line (reverse journal)))
     → e ≡ d ++ codes "open" → f ≡ e ++ spaced (decimal n) → g ≡ f ++ 10 ∷ text_line (codes "end") [] → g ≡ report_text script journal
 unfolding report_text
-report_is script journal n a b c d e f g open_is at_a at_b at_c at_d at_e at_f at_g =
+report_is script journal n a b c d e f g unanswered at_a at_b at_c at_d at_e at_f at_g =
     at_g ∙ ap (λ (l : List ℕ). l ++ 10 ∷ text_line (codes "end") [])
     (at_f ∙ ap (λ (l : List ℕ). l ++ spaced (decimal n)) (at_e ∙ ap (λ (l : List ℕ). l ++ codes "open") start))
-    ∙ ap (λ (k : ℕ). ((front ++ codes "open") ++ spaced (decimal k)) ++ 10 ∷ text_line (codes "end") []) (open_is ∙ open_count_is script (reverse journal))
+    ∙ ap (λ (k : ℕ). ((front ++ codes "open") ++ spaced (decimal k)) ++ 10 ∷ text_line (codes "end") []) unanswered
     ∙ last_lines front (codes "open") (spaced (decimal (open_count script (reverse journal)))) (text_line (codes "end") [])
   where
     front : List ℕ
@@ -73,7 +59,5 @@ report_is script journal n a b c d e f g open_is at_a at_b at_c at_d at_e at_f a
     start : d ≡ front
     start =
         at_d ∙ ap (λ (l : List ℕ). l ++ text_line (codes "line") (map id_word (line (reverse journal))))
-        (at_c ∙ ap (λ (l : List ℕ). l ++ flat_map (λ p. flat_map (λ k. order_line (reverse journal) (site p k)) (up_to script.topology.replicas)) (up_to script.topology.partitions))
-        (at_b ∙ ap (λ (l : List ℕ). l ++ flat_map (lines_of script (reverse journal)) (up_to (length script.homes))) at_a
-        ∙ ap (λ (l : List ℕ). text_line (codes "report") (codes "1" ∷ []) ++ l) (reply_lines_are script (reverse journal)))
-        ∙ ap (λ (l : List ℕ). (text_line (codes "report") (codes "1" ∷ []) ++ reply_lines script (reverse journal)) ++ l) (order_lines_are script (reverse journal)))
+        (at_c ∙ ap (λ (l : List ℕ). l ++ order_lines script (reverse journal))
+        (at_b ∙ ap (λ (l : List ℕ). l ++ reply_lines script (reverse journal)) at_a))

@@ -1,4 +1,6 @@
-pub mod Recorded
-pub mod Replay
+pub mod Commands
 pub mod Replies
 pub mod Report
+pub mod Results
+pub mod Recorded
+pub mod Outcomes

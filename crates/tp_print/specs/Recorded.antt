@@ -41,3 +41,11 @@ pub record IsRecorded (older : List Entry) (s : Site) (r : SiteRecord) : Type 0 
 -- the commands executed, each with its stamp, or 0
 abbrev pub recorded_words : SiteRecord → List (List ℕ)
 recorded_words r = map (λ id. stamped_word id (unwrap_or (get same_id r.stamps id) 0)) r.executed.items
+
+-- what is kept of a site: a record, or none, where a new one would do
+abbrev pub IsKept : List Entry → Site → Option SiteRecord → Type 0
+IsKept older s None = (r : SiteRecord) → IsRecorded [] s r → IsRecorded older s r
+IsKept older s (Some r) = IsRecorded older s r
+
+abbrev pub AreRecorded : {S : Type 0} → List Entry → IndexMap Site SiteRecord S → Type 0
+AreRecorded older sites = (s : Site) → IsKept older s (get same_site sites s)

@@ -1,10 +1,9 @@
 ghost use Rattle.std.specs.Prelude.{◌≡◌};
 ghost use Rattle.tp_base.specs.Names.{same_name};
-ghost use Rattle.tp_print.specs.Replay.{is_named};
 ghost use Rattle.tp_rules.specs.Journal.{is_crash};
 ghost use Rattle.tp_rules.specs.Outcome.{executed_by};
 
-use tp_base::{ActorName, CommandId, Site};
+use tp_base::{ActorName, CommandId, SessionId, Site};
 use tp_rules::{Event, Inner};
 
 /// Whether a name is that of a site's process.
@@ -21,14 +20,11 @@ pub fn is_executor(name: ActorName, site: Site) -> bool
     name == ActorName::Executor(site)
 }
 
-/// Whether a name is that of the session of a number.
-pub fn is_session(name: ActorName, session: usize) -> bool
-    ensures { result ≡ is_named name session }
+/// Whether a name is that of a session.
+pub fn is_session(name: ActorName, session: SessionId) -> bool
+    ensures { result ≡ same_name name (ActorName.Session session) }
 {
-    match name {
-        ActorName::Session(id) => usize::from(id.0) == session,
-        _ => false,
-    }
+    name == ActorName::Session(session)
 }
 
 pub fn is_crash(event: Event) -> bool

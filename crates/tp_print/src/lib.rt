@@ -1,16 +1,19 @@
 //! The texts that say what a run came to.
 #![tactic(auto)]
 
+mod commands;
 mod events;
+mod first_results;
 mod journal;
 mod line;
 mod orders;
-mod printed;
-mod replay;
-mod session;
+mod outcome;
+mod replies;
+mod reply;
+mod report_text;
+mod results;
 mod site;
-#[cfg(test)]
-mod tests;
+mod sites;
 mod words;
 
-pub use printed::report;
+pub use report_text::report;

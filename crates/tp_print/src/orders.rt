@@ -1,15 +1,16 @@
-ghost use Rattle.std.specs.Prelude.{◌≡◌, ◌++◌, ◌∷◌, codes, map, reverse, OnOk};
+ghost use Rattle.std.specs.Prelude.{◌≡◌, ◌++◌, ◌∷◌, codes, map, List, OnOk};
 ghost use Rattle.std.specs.List.{flat_map};
-ghost use Rattle.tp_print.specs.Recorded.{recorded_words};
+ghost use Rattle.tp_print.specs.Recorded.{AreRecorded, recorded_words};
+ghost use Rattle.tp_rules.specs.declared.event.Entry.{Entry};
 ghost use Rattle.tp_print.specs.Report.{crashed_words, order_line, site_word, spaced, text_line};
 ghost use Rattle.tp_rules.specs.Addresses.{site};
 ghost use Rattle.tp_topology.specs.Counting.{up_to};
 
-use crate::site::{SiteRecord, site_record};
+use crate::site::SiteRecord;
+use crate::sites::Sites;
 use crate::words::{put_site, put_stamped};
 use std::alloc::Global;
 use tp_base::{NoMemory, PartitionId, Put, Rank, Site};
-use tp_rules::Entry;
 use tp_topology::Topology;
 
 fn put_executed(out: &mut Put, noted: &SiteRecord) -> Result<(), NoMemory>
@@ -42,11 +43,12 @@ fn put_record(out: &mut Put, site: Site, noted: &SiteRecord) -> Result<(), NoMem
 }
 
 /// The line of one site.
-fn put_order(alloc: Global, out: &mut Put, entries: &[Entry], site: Site) -> Result<(), NoMemory>
-    ensures { OnOk result (out.new ≡ out.old ++ order_line (reverse entries.now) site) }
+fn put_order(alloc: Global, out: &mut Put, sites: &Sites, site: Site) -> Result<(), NoMemory>
+    ensures { OnOk result ((older : List Entry) → AreRecorded older sites.now → out.new ≡ out.old ++ order_line older site) }
 {
-    let noted = site_record(alloc, entries, site)?;
-    put_record(out, site, &noted)?;
+    let none = SiteRecord::new(alloc);
+    let noted = sites.get(&site).unwrap_or(&none);
+    put_record(out, site, noted)?;
     Ok(())
 }
 
@@ -55,17 +57,17 @@ fn put_partition(
     alloc: Global,
     out: &mut Put,
     topology: &Topology,
-    entries: &[Entry],
+    sites: &Sites,
     partition: PartitionId,
 ) -> Result<(), NoMemory>
-    ensures { OnOk result (out.new ≡ out.old ++ flat_map (λ k. order_line (reverse entries.now) (site partition.0 k)) (up_to topology.now.replicas)) }
+    ensures { OnOk result ((older : List Entry) → AreRecorded older sites.now → out.new ≡ out.old ++ flat_map (λ k. order_line older (site partition.0 k)) (up_to topology.now.replicas)) }
 {
     for i in 0..topology.replicas() {
         let site = Site {
             partition,
             rank: Rank(i + 1),
         };
-        put_order(alloc, out, entries, site)?;
+        put_order(alloc, out, sites, site)?;
     }
     Ok(())
 }
@@ -75,12 +77,12 @@ pub fn put_orders(
     alloc: Global,
     out: &mut Put,
     topology: &Topology,
-    entries: &[Entry],
+    sites: &Sites,
 ) -> Result<(), NoMemory>
-    ensures { OnOk result (out.new ≡ out.old ++ flat_map (λ p. flat_map (λ k. order_line (reverse entries.now) (site p k)) (up_to topology.now.replicas)) (up_to topology.now.partitions)) }
+    ensures { OnOk result ((older : List Entry) → AreRecorded older sites.now → out.new ≡ out.old ++ flat_map (λ p. flat_map (λ k. order_line older (site p k)) (up_to topology.now.replicas)) (up_to topology.now.partitions)) }
 {
     for i in 0..topology.partitions() {
-        put_partition(alloc, out, topology, entries, PartitionId(i + 1))?;
+        put_partition(alloc, out, topology, sites, PartitionId(i + 1))?;
     }
     Ok(())
 }

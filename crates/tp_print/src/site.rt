@@ -1,4 +1,4 @@
-ghost use Rattle.std.specs.Prelude.{◌≡◌, [], ◌∷◌, ◌||◌, cond, List, Some, None, reverse, IfOk, OnOk};
+ghost use Rattle.std.specs.Prelude.{◌≡◌, [], ◌∷◌, ◌||◌, cond, List, Some, None, OnOk};
 ghost use Rattle.indexmap.specs.IndexMap.{get};
 ghost use Rattle.tp_base.specs.Names.{same_id};
 ghost use Rattle.tp_base.specs.declared.names.CommandId.{CommandId};
@@ -57,7 +57,7 @@ fn note_commits(stamps: &mut IndexMap<CommandId, u64>, outputs: &Outputs) -> Res
 
 impl SiteRecord {
     /// Of an empty journal. It takes no memory.
-    fn new(alloc: Global) -> Self
+    pub fn new(alloc: Global) -> Self
         ensures { (s : Site) → IsRecorded [] s result }
     {
         SiteRecord {
@@ -89,7 +89,8 @@ impl SiteRecord {
         Ok(())
     }
 
-    fn note(&mut self, site: Site, entry: &Entry) -> Result<(), NoMemory>
+    /// Goes on with the next entry.
+    pub fn note(&mut self, site: Site, entry: &Entry) -> Result<(), NoMemory>
         ensures { OnOk result ((older : List Entry) → IsRecorded older site self.old → IsRecorded (entry.now ∷ older) site self.new) }
     {
         if is_process(entry.actor, site) {
@@ -102,15 +103,4 @@ impl SiteRecord {
         }
         Ok(())
     }
-}
-
-/// What a site did by a journal.
-pub fn site_record(alloc: Global, entries: &[Entry], site: Site) -> Result<SiteRecord, NoMemory>
-    ensures { IfOk result (λ noted. IsRecorded (reverse entries.now) site noted) }
-{
-    let mut noted = SiteRecord::new(alloc);
-    for entry in entries {
-        noted.note(site, entry)?;
-    }
-    Ok(noted)
 }

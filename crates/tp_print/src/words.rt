@@ -1,6 +1,6 @@
 ghost use Rattle.std.specs.Prelude.{◌≡◌, ◌++◌, OnOk};
 ghost use Rattle.std.specs.Fmt.{decimal};
-ghost use Rattle.tp_print.specs.Report.{answer_word, id_of, id_word, site_word, spaced, stamped_word};
+ghost use Rattle.tp_print.specs.Report.{answer_word, id_word, site_word, spaced, stamped_word};
 
 use itoa::Buffer;
 use std::alloc::Global;
@@ -16,13 +16,13 @@ fn put_number(out: &mut Put, n: u64) -> Result<(), NoMemory>
 
 /// A command's identifier, by its session and number.
 #[tactic(auto, unfolding(crate::specs::Report::id_word))]
-pub fn put_id(out: &mut Put, session: u64, number: u64) -> Result<(), NoMemory>
-    ensures { OnOk result (out.new ≡ out.old ++ spaced (id_word (id_of session number))) }
+pub fn put_id(out: &mut Put, id: CommandId) -> Result<(), NoMemory>
+    ensures { OnOk result (out.new ≡ out.old ++ spaced (id_word id)) }
 {
     out.bytes(b" ")?;
-    put_number(out, session)?;
+    put_number(out, u64::from(id.session.0))?;
     out.bytes(b".")?;
-    put_number(out, number)
+    put_number(out, u64::from(id.number))
 }
 
 #[tactic(auto, unfolding(crate::specs::Report::site_word))]
@@ -46,7 +46,7 @@ pub fn put_count(out: &mut Put, n: u64) -> Result<(), NoMemory>
 pub fn put_stamped(out: &mut Put, id: CommandId, stamp: u64) -> Result<(), NoMemory>
     ensures { OnOk result (out.new ≡ out.old ++ spaced (stamped_word id stamp)) }
 {
-    put_id(out, u64::from(id.session.0), u64::from(id.number))?;
+    put_id(out, id)?;
     out.bytes(b"@")?;
     put_number(out, stamp)
 }
