@@ -63,7 +63,7 @@ pub record Agrees {S : Type 0} (shape : Shape) (site : Site) (clock told : ℕ) 
 
 -- the process has what the state says
 abbrev pub IsState : Process → ProcessState → Type 0
-IsState p s = Agrees p.place.topology p.place.site p.clock p.told p.untold p.sheets s
+IsState p s = Agrees p.place.topology p.place.site p.clock.clock p.clock.told p.untold p.sheets s
 
 abbrev pub Stands : Process → List Act → Type 0
 Stands p acts = IsState p (state_after (ring_setting p.place.topology) p.place.site acts)
@@ -74,7 +74,7 @@ kept_of p id = sheet_at p.place.topology p.place.site p.sheets id
 
 -- whether the process proposes for a command, by the sheet and the clock
 abbrev pub takes_proposal : Process → Command → Bool
-takes_proposal p c = is_fresh (kept_of p c.id).site.partition.0 (kept_of p c.id).sheet && nat_lt p.clock (LIMIT - 1)
+takes_proposal p c = is_fresh (kept_of p c.id).site.partition.0 (kept_of p c.id).sheet && nat_lt p.clock.clock (LIMIT - 1)
 
 abbrev pub takes_submission : Process → Command → Bool
 takes_submission p c = (c.home.0 == p.place.site.rank.0) && takes_proposal p c

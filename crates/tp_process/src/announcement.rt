@@ -16,7 +16,7 @@ impl Process {
         ensures outputs { IfOk result (λ outputs. (s : ProcessState) → IsState self.old s → outputs ≡ (on_announce self.old.place.topology self.old.place.site s).1) }
         ensures state { OnOk result ((s : ProcessState) → IsState self.old s → IsState self.new (on_announce self.old.place.topology self.old.place.site s).0) }
     {
-        if self.told < self.clock {
+        if self.clock.told() < self.clock.now() {
             return self.announce();
         }
         Ok(self.nothing())
@@ -31,12 +31,12 @@ impl Process {
         let mut outputs = self.nothing();
         let place = self.place;
         let names = executors_of(self.alloc, &place.topology, place.site.partition)?;
+        let (lo, hi) = self.clock.tell();
         let body = Body::MPromises {
-            lo: self.told,
-            hi: self.clock,
+            lo,
+            hi,
             pairs: mem::replace(&mut self.untold, Sequence::new(self.alloc)),
         };
-        self.told = self.clock;
         send_each(&mut outputs, place.name(), names.as_slice(), &body)?;
         Ok(outputs)
     }

@@ -1,6 +1,6 @@
 ghost use Rattle.std.specs.Prelude.{◌≡◌, ◌<◌, ◌-◌, ◌∷◌, [], false, nat_lt, List, IfOk, OnOk};
 ghost use Rattle.std.specs.Option.{option_map};
-ghost use Rattle.tp_base.specs.Promises.{proposed as proposed_stamp};
+ghost use Rattle.tp_clock.specs.Clocks.{Promised};
 ghost use Rattle.tp_rules.specs.Acts.{Act, ProcessAt};
 ghost use Rattle.tp_rules.specs.Process.{LIMIT as the_limit, ProcessState, bumped, on_inner, on_message, proposing, state_after, with_sheet};
 ghost use Rattle.tp_rules.specs.Sheet.{Sheet, final_stamp as final_stamp_in, ring_setting};
@@ -12,6 +12,7 @@ use crate::sheets::{Sheets, final_stamp};
 use indexmap::IndexMap;
 use std::alloc::Global;
 use tp_base::{ActorName, CommandId, NoMemory, Pair, Pairs, Sequence, Site, Stamp};
+use tp_clock::Clock;
 use tp_rules::{Actor, Inner, Outputs};
 use tp_topology::Topology;
 use tp_wire::{Body, Message};
@@ -24,15 +25,14 @@ pub(crate) const LIMIT: u64 = 1 << 48;
 pub struct Process {
     pub(crate) alloc: Global,
     pub(crate) place: Place,
-    pub(crate) clock: u64,
-    pub(crate) told: u64,
+    pub(crate) clock: Clock,
     pub(crate) untold: Pairs,
     pub(crate) sheets: Sheets,
     pub(crate) spent: bool,
 }
 
 impl Process {
-    ghost use Rattle.tp_process.specs.State.{IsState, Stands, identity};
+    ghost use Rattle.tp_process.specs.State.{Agrees, IsState, Stands, identity};
 
     /// A process that has taken no message. It takes no memory.
     pub fn new(alloc: Global, topology: &Topology, site: Site) -> Process
@@ -44,8 +44,7 @@ impl Process {
         Process {
             alloc,
             place: Place::new(topology, site),
-            clock: 0,
-            told: 0,
+            clock: Clock::new(),
             untold: Sequence::new(alloc),
             sheets: IndexMap::new(alloc),
             spent: false,
@@ -56,7 +55,7 @@ impl Process {
     pub fn clock(&self) -> u64
         ensures { (acts : List Act) → Stands self.now acts → result ≡ (state_after (ring_setting self.now.place.topology) self.now.place.site acts).clock }
     {
-        self.clock
+        self.clock.now()
     }
 
     /// The command's final stamp, where the stamps of all its partitions are known.
@@ -75,26 +74,17 @@ impl Process {
 
     /// Whether a proposal's stamp would be below the limit.
     pub(crate) fn has_room(&self) -> bool
-        ensures { result ≡ nat_lt self.now.clock (the_limit - 1) }
+        ensures { result ≡ nat_lt self.now.clock.clock (the_limit - 1) }
     {
-        self.clock < LIMIT - 1
+        self.clock.now() < LIMIT - 1
     }
 
-    /// The stamp of a proposal of at least the floor.
-    pub(crate) fn next_stamp(&self, floor: Stamp) -> Stamp
-        requires { self.now.clock < the_limit }
-        ensures { result.0 ≡ proposed_stamp floor.0 self.now.clock }
-    {
-        Stamp(floor.0.max(self.clock.saturating_add(1)))
-    }
-
-    /// Promises a stamp to a command, and the numbers between the clock and it to none.
+    /// Attaches the stamp that the clock has just proposed to a command.
     pub(crate) fn promise(&mut self, id: CommandId, stamp: Stamp) -> Result<(), NoMemory>
         ensures identity { identity self.new ≡ identity self.old }
-        ensures state { OnOk result ((s : ProcessState) → (sheet : Sheet) → IsState self.old (with_sheet id sheet s) → s.clock < stamp.0 → stamp.0 < the_limit → IsState self.new (proposing id stamp.0 sheet s)) }
+        ensures state { OnOk result ((s : ProcessState) → (sheet : Sheet) → (before : Promised) → Agrees self.old.place.topology self.old.place.site before.clock before.told self.old.untold self.old.sheets (with_sheet id sheet s) → s.clock < stamp.0 → stamp.0 < the_limit → self.old.clock ≡ record { clock = stamp.0; told = before.told } → IsState self.new (proposing id stamp.0 sheet s)) }
     {
         self.untold.add(Pair { id, stamp })?;
-        self.clock = stamp.0;
         Ok(())
     }
 
@@ -103,7 +93,9 @@ impl Process {
         ensures identity { identity self.new ≡ identity self.old }
         ensures state { (s : ProcessState) → IsState self.old s → stamp.0 < the_limit → IsState self.new (bumped stamp.0 s) }
     {
-        self.clock = stamp.0.max(self.clock);
+        if stamp.0 < LIMIT {
+            self.clock.bump(stamp.0);
+        }
     }
 
     fn take(&mut self, message: &Message) -> Result<Outputs, NoMemory>
@@ -203,7 +195,7 @@ impl Actor for Process {
     fn next_inner(&self) -> Option<Inner>
         ensures { (acts : List Act) → Stands self.now acts → result ≡ enabled (identity self.now) acts }
     {
-        if self.told < self.clock {
+        if self.clock.told() < self.clock.now() {
             Some(Inner::Announce)
         } else {
             None

@@ -138,12 +138,12 @@ impl Process {
         ballot: u64,
     ) -> Result<Outputs, NoMemory>
         requires command { is_command_at self.old.place.topology self.old.place.site.partition.0 command.now ≡ true }
-        requires room { nat_lt self.old.clock (the_limit - 1) ≡ true }
+        requires room { nat_lt self.old.clock.clock (the_limit - 1) ≡ true }
         ensures identity { identity self.new ≡ identity self.old }
         ensures outputs { IfOk result (λ outputs. (s : ProcessState) → IsState self.old s → outputs ≡ (proposed_late (ring_setting self.old.place.topology) self.old.place.site from command.now ballot (next_stamp 0 s) (s.sheets command.now.id) s).1) }
         ensures state { OnOk result ((s : ProcessState) → IsState self.old s → IsState self.new (proposed_late (ring_setting self.old.place.topology) self.old.place.site from command.now ballot (next_stamp 0 s) (s.sheets command.now.id) s).0) }
     {
-        let stamp = self.next_stamp(Stamp(0));
+        let stamp = self.clock.propose(0);
         propose_late(
             &mut self.sheets,
             &self.place,

@@ -1,13 +1,13 @@
 ghost use Rattle.std.specs.Prelude.{◌≡◌, ◌≤◌, ◌<◌, ◌++◌, ◌∷◌, [], true, cond, IfOk, OnOk};
 ghost use Rattle.tp_process.specs.State.{IsState, identity, kept_of, takes_proposal, takes_submission};
 ghost use Rattle.tp_rules.specs.Addresses.{is_command_at, message};
-ghost use Rattle.tp_rules.specs.Process.{LIMIT, ProcessState, bumps, on_bump, on_payload, on_propose, on_submit, proposals, with_room};
+ghost use Rattle.tp_rules.specs.Process.{LIMIT as the_limit, ProcessState, bumps, on_bump, on_payload, on_propose, on_submit, proposals, with_room};
 ghost use Rattle.tp_rules.specs.Sheet.{command_or as kept_or, ring_setting};
 ghost use Rattle.tp_topology.specs.Shape.{in_ring};
 
 use crate::addresses::{counterparts, send_each};
 use crate::place::Place;
-use crate::process::Process;
+use crate::process::{LIMIT, Process};
 use crate::sheets::{command_or, is_fresh, keep, propose, submit};
 use tp_base::{ActorName, Duplicate, NoMemory, Rank, Site, Stamp};
 use tp_ops::Command;
@@ -25,7 +25,7 @@ impl Process {
         if !self.takes_submission(command) {
             return Ok(self.nothing());
         }
-        let stamp = self.next_stamp(Stamp(0));
+        let stamp = self.clock.propose(0);
         let outputs = self.submission(command, stamp)?;
         submit(&mut self.sheets, &self.place, command.copy()?, stamp)?;
         self.promise(command.id, stamp)?;
@@ -41,13 +41,13 @@ impl Process {
     ) -> Result<Outputs, NoMemory>
         requires { is_command_at self.old.place.topology self.old.place.site.partition.0 command.now ≡ true }
         ensures identity { identity self.new ≡ identity self.old }
-        ensures outputs { IfOk result (λ outputs. (s : ProcessState) → IsState self.old s → floor.0 < LIMIT → outputs ≡ (with_room s (on_propose (ring_setting self.old.place.topology) self.old.place.site from command.now floor.0 s)).1) }
-        ensures state { OnOk result ((s : ProcessState) → IsState self.old s → floor.0 < LIMIT → IsState self.new (with_room s (on_propose (ring_setting self.old.place.topology) self.old.place.site from command.now floor.0 s)).0) }
+        ensures outputs { IfOk result (λ outputs. (s : ProcessState) → IsState self.old s → floor.0 < the_limit → outputs ≡ (with_room s (on_propose (ring_setting self.old.place.topology) self.old.place.site from command.now floor.0 s)).1) }
+        ensures state { OnOk result ((s : ProcessState) → IsState self.old s → floor.0 < the_limit → IsState self.new (with_room s (on_propose (ring_setting self.old.place.topology) self.old.place.site from command.now floor.0 s)).0) }
     {
-        if !self.takes_proposal(command) {
+        if LIMIT <= floor.0 || !self.takes_proposal(command) {
             return Ok(self.nothing());
         }
-        let stamp = self.next_stamp(floor);
+        let stamp = self.clock.propose(floor.0);
         let outputs = self.proposal(from, command, stamp)?;
         propose(&mut self.sheets, &self.place, command.copy()?, stamp)?;
         self.promise(command.id, stamp)?;
@@ -69,7 +69,7 @@ impl Process {
     pub(crate) fn on_bump(&mut self, stamp: Stamp) -> Outputs
         ensures identity { identity self.new ≡ identity self.old }
         ensures outputs { result ≡ [] }
-        ensures state { (s : ProcessState) → IsState self.old s → stamp.0 < LIMIT → IsState self.new (on_bump stamp.0 s).0 }
+        ensures state { (s : ProcessState) → IsState self.old s → stamp.0 < the_limit → IsState self.new (on_bump stamp.0 s).0 }
     {
         self.bump(stamp);
         self.nothing()

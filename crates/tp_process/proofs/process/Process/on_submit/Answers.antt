@@ -18,21 +18,21 @@ pub returns-clause-outputs : goal.returns-clause-outputs
 returns-clause-outputs c = λ s stands.
     let place = c.args.self.now.place in
     let command = c.args.command.now in
-    let t = c.next_stamp-stamp.result.0 in
+    let t = c.propose-stamp.result.0 in
     let takes = sym c.takes_submission.ensures.value ∙ c.if-not-takes_submission.false in
     c.in_ok-outputs.ensures
     ∙ ap (λ (kept : SiteSheet). proposals (ring_setting place.topology) place.site command t ++ bumps place.topology place.site (command_or command kept.sheet) t) (stands.sheets_are command.id)
-    ∙ ap (λ (m : Moved). m.1) (sym (submit_taken _ _ _ _ _ _ command s stands t c.next_stamp-stamp.ensures takes))
+    ∙ ap (λ (m : Moved). m.1) (sym (submit_taken _ _ _ _ _ _ command s stands t c.propose-stamp.ensures.stamp takes))
 
 pub returns-clause-state : goal.returns-clause-state
 returns-clause-state c = λ s stands.
     let p = c.args.self.now in
     let command = c.args.command.now in
-    let t = c.next_stamp-stamp.result.0 in
+    let t = c.propose-stamp.result.0 in
     let takes : takes_submission p command ≡ true = sym c.takes_submission.ensures.value ∙ c.if-not-takes_submission.false in
     let proposes = (and_parts (command.home.0 == p.place.site.rank.0) (takes_proposal p command) takes).1 in
-    let fits = stamp_fits _ _ _ _ _ _ command s stands 0 t (omega arith) c.next_stamp-stamp.ensures proposes in
+    let fits = stamp_fits _ _ _ _ _ _ command s stands 0 t (omega arith) c.propose-stamp.ensures.stamp proposes in
     let kept = submits_now _ _ _ _ _ _ command s stands _ _ t c.requires c.in_ok-copy.ensures fits.1 c.in_ok-submit.ensures in
     subst (λ (m : Moved). IsState c.promise.new.self m.0)
-    (sym (submit_taken _ _ _ _ _ _ command s stands t c.next_stamp-stamp.ensures takes))
-    (c.in_ok-promise.ensures.state s _ kept fits.0 fits.1)
+    (sym (submit_taken _ _ _ _ _ _ command s stands t c.propose-stamp.ensures.stamp takes))
+    (c.in_ok-promise.ensures.state s _ p.clock kept fits.0 fits.1 c.propose-stamp.ensures.moved)

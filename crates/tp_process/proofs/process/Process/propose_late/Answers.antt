@@ -9,9 +9,9 @@ pub returns-clause-state : goal.returns-clause-state
 returns-clause-state c = λ s stands.
     let place = c.args.self.now.place in
     let command = c.args.command.now in
-    let t = c.next_stamp-stamp.result.0 in
-    let fits = late_fits _ _ _ _ _ _ command s stands t c.next_stamp-stamp.ensures c.requires.room in
+    let t = c.propose-stamp.result.0 in
+    let fits = late_fits _ _ _ _ _ _ command s stands t c.propose-stamp.ensures.stamp c.requires.room in
     let kept = proposes_late_now _ _ _ _ _ _ command s stands _ _ c.args.ballot t c.requires.command c.in_ok-copy.ensures c.in_ok-propose_late.ensures in
     subst (λ (n : ℕ). IsState c.promise.new.self (proposed_late (ring_setting place.topology) place.site c.args.from command c.args.ballot n (s.sheets command.id) s).0)
-    (sym (late_stamp _ _ _ _ _ _ command s stands t c.next_stamp-stamp.ensures))
-    (c.in_ok-promise.ensures.state s _ kept fits.0 fits.1)
+    (sym (late_stamp _ _ _ _ _ _ command s stands t c.propose-stamp.ensures.stamp))
+    (c.in_ok-promise.ensures.state s _ c.args.self.now.clock kept fits.0 fits.1 c.propose-stamp.ensures.moved)
