@@ -16,14 +16,14 @@ pub struct Proposer {
 }
 
 impl Model for Proposer {
-    ghost use Rattle.std.specs.Prelude.{◌≡◌, length};
+    ghost use Rattle.std.specs.Prelude.{◌≤◌, take};
     ghost use Rattle.tp_paxos.specs.Votes.{Proposal};
 
     ghost Value = { Proposal };
 
-    ghost view = { λ p. record { shape = p.topology; tried = p.tried; putting_ballot = p.putting_ballot; putting_stamp = p.putting_stamp; votes = p.votes } };
+    ghost view = { λ p. record { shape = p.topology; tried = p.tried; putting_ballot = p.putting_ballot; putting_stamp = p.putting_stamp; votes = take p.topology.replicas p.votes } };
 
-    ghost invariant = { λ p. length p.votes ≡ 7 };
+    ghost invariant = { λ p. p.topology.replicas ≤ 7 };
 }
 
 impl Proposer {
@@ -31,6 +31,8 @@ impl Proposer {
     pub fn new(topology: &Topology) -> Proposer
         ensures { result ≡ nothing topology.now }
     {
+        let replicas = topology.replicas();
+        prove!(replicas <= 7);
         Proposer {
             topology: *topology,
             tried: 0,
@@ -90,10 +92,15 @@ impl Proposer {
         if ballot != self.putting_ballot {
             return false;
         }
-        let replicas = self.topology.replicas();
-        prove!(replicas <= 7);
         self.votes[usize::from(rank.0) - 1] = true;
-        self.topology.slow_size() <= count_votes(&self.votes)
+        self.topology.slow_size() <= count_votes(self.votes())
+    }
+
+    fn votes(&self) -> &[bool]
+        ensures table { result.now ≡ self.now.votes }
+        ensures few { length result.now ≤ 7 }
+    {
+        &self.votes[..usize::from(self.topology.replicas())]
     }
 }
 

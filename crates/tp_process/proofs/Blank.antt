@@ -1,14 +1,13 @@
 -- What the blank sheet says.
 use Rattle.std.proofs.Common.{◌≡◌, ℕ, zero, suc, Bool, true, false, Option, None, replicate, refl, ap, ◌∙◌, arith}
-use Rattle.std.proofs.lemmas.Bool.{and_parts, eqb-true, le-leb, ltb-true}
+use Rattle.std.proofs.lemmas.Bool.{and_parts, eqb-true, ltb-true}
 use Rattle.std.specs.Prelude.{slice_get, ◌&&◌, ◌==◌, nat_lt, not}
-use Rattle.tp_base.specs.declared.names.Made.TheVariants.{Proposal}
 use Rattle.tp_base.specs.declared.names.Site.{Site}
 use Rattle.tp_choice.specs.declared.answer.RecoveryAnswer.{RecoveryAnswer}
 use Rattle.tp_rules.specs.Addresses.{is_between}
-use Rattle.tp_rules.specs.Sheet.{blank, can_accept, is_fresh, is_untouched, stamp_of}
+use Rattle.tp_rules.specs.Sheet.{blank, is_fresh, stamp_of}
 use Rattle.tp_rules.specs.Tables.{kept_at, flat}
-use Rattle.tp_sheet.specs.SiteSheet.{blank_at, takes_acknowledgement, choice_by, with_acknowledgement, takes_vote, decision_by, with_vote_of, final_of, answer_of, ballot_by, with_try, takes_answer, recovery_by, with_answer_of}
+use Rattle.tp_sheet.specs.SiteSheet.{blank_at, takes_acknowledgement, choice_by, with_acknowledgement, takes_vote, decision_by, with_vote_of, final_of, ballot_by, with_try, takes_answer, recovery_by, with_answer_of}
 use Rattle.tp_topology.specs.Shape.{Shape}
 
 empty_place : (n i : ℕ) → flat (slice_get (replicate n (let none : Option ℕ = None in none)) i) ≡ None
@@ -46,10 +45,6 @@ blank-choice shape site rank t = rw (blank-takes shape site rank) refl
 pub blank-acknowledges : (shape : Shape) (site : Site) (rank t : ℕ) → with_acknowledgement rank t (blank_at shape site) ≡ blank_at shape site
 blank-acknowledges shape site rank t = rw (blank-takes shape site rank) refl
 
-pub blank-accepts : (shape : Shape) (p b : ℕ) → can_accept p b (blank shape) ≡ true
-unfolding blank
-blank-accepts shape p b = rw (empty_table shape.partitions p) (le-leb 0 b (omega arith))
-
 -- nothing is put, so no ballot is one of what is put
 no_ballot : (unknown : Bool) (b : ℕ) (counts : Bool) → (unknown && nat_lt 0 b && (0 == b)) ≡ counts → counts ≡ false
 no_ballot unknown b false e = refl
@@ -73,19 +68,6 @@ blank-votes shape site rank b = rw (blank-takes_vote shape site rank b) refl
 pub blank-stamp : (shape : Shape) (q : ℕ) → stamp_of (blank shape) q ≡ None
 unfolding blank
 blank-stamp shape q = empty_table shape.partitions q
-
-pub blank-ballot : (shape : Shape) → (blank shape).ballot ≡ 0
-unfolding blank
-blank-ballot shape = refl
-
-pub blank-is_untouched : (shape : Shape) → is_untouched (blank shape) ≡ true
-unfolding blank
-blank-is_untouched shape = refl
-
-pub blank-told : (shape : Shape) (site : Site)
-    → answer_of (blank_at shape site) ≡ record { rank = site.rank; stamp = record { 0 = 0 }; made = Proposal; accepted = 0 }
-unfolding blank
-blank-told shape site = refl
 
 pub blank-recovers : (shape : Shape) (site : Site) → ballot_by (blank_at shape site) ≡ None
 unfolding blank

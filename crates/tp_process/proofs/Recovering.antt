@@ -1,7 +1,8 @@
 -- How a recovery goes on with the state of the rules: the ballot that is tried, and what is told to those who try one.
 use Rattle.std.proofs.Common.{◌≡◌, ℕ, ◌-◌, ◌<◌, Bool, true, false, ◌&&◌, cond, List, [], Option, Some, None, is_some, refl, sym, ap, subst, ◌∙◌, arith}
-use Rattle.std.proofs.lemmas.Bool.{cond-true, cond-false, lt-ltb}
-use Rattle.std.specs.Prelude.{is_none, nat_lt}
+use Rattle.std.proofs.lemmas.Bool.{and_parts, cond-true, cond-false, eqb-true, lt-ltb}
+use Rattle.std.proofs.lemmas.Option.{cond_some}
+use Rattle.std.specs.Prelude.{◌==◌, is_none, nat_lt}
 use Rattle.indexmap.specs.IndexMap.{IndexMap}
 use Rattle.tp_base.specs.Promises.{proposed as proposed_stamp}
 use Rattle.tp_base.specs.declared.names.ActorName.{ActorName}
@@ -9,16 +10,17 @@ use Rattle.tp_base.specs.declared.names.CommandId.{CommandId}
 use Rattle.tp_base.specs.declared.names.Made.TheVariants.{Recovery}
 use Rattle.tp_base.specs.declared.names.Pair.{Pair}
 use Rattle.tp_base.specs.declared.names.Site.{Site}
+use Rattle.tp_choice.specs.declared.answer.RecoveryAnswer.{RecoveryAnswer}
 use Rattle.tp_ops.specs.declared.command.Command.{Command}
 use Rattle.tp_process.proofs.Learning.{changed, put_back}
 use Rattle.tp_process.proofs.LowStamps.{kept_low, trying_low, with_ballot_low, with_proposal_low}
 use Rattle.tp_process.proofs.Proposing.{later, same_room, stamp_low}
 use Rattle.tp_process.specs.Sheets.{ChangesSheet, sheet_at}
-use Rattle.tp_process.specs.State.{Agrees, site_sheet}
+use Rattle.tp_process.specs.State.{Agrees, agreed_above, answer_with, site_sheet}
 use Rattle.tp_rules.specs.Addresses.{is_command_at}
-use Rattle.tp_rules.specs.Process.{LIMIT, Moved, ProcessState, agreed, has_next, joined, next_stamp, on_rec, on_rec_by, on_recover, proposed_late, recovering, told as told_to, with_room, with_sheet}
-use Rattle.tp_rules.specs.Sheet.{Sheet, is_untouched, kept, ring_setting, stamp_of, trying, with_ballot, with_proposal}
-use Rattle.tp_sheet.specs.SiteSheet.{SiteSheet, ballot_by, trying_at, with_sheet as keeping, with_try}
+use Rattle.tp_rules.specs.Process.{LIMIT, Moved, ProcessState, agreed, answer, has_next, joined, next_stamp, on_rec, on_rec_by, on_recover, proposed_late, recovering, told as told_to, with_room, with_sheet}
+use Rattle.tp_rules.specs.Sheet.{Sheet, is_fresh, is_untouched, kept, ring_setting, stamp_of, trying, with_ballot, with_proposal}
+use Rattle.tp_sheet.specs.SiteSheet.{SiteSheet, answer_of, ballot_by, promise_by, trying_at, with_promise, with_sheet as keeping, with_try}
 use Rattle.tp_topology.specs.Ballots.{next_ballot}
 use Rattle.tp_topology.specs.Shape.{Shape}
 
@@ -80,6 +82,36 @@ module _ {S : Type 0} (shape : Shape) (me : Site) (clock told : ℕ) (pairs : Li
 
 -- what is told to a recovery
 
+-- a ballot that no recovery tries is not taken
+untried : (own b : ℕ) → (nat_lt 0 b && nat_lt b LIMIT) ≡ false → (nat_lt own b && nat_lt b LIMIT) ≡ false
+untried own b e = grind arith
+
+-- a sheet without the partition's stamp is fresh just where it is untouched
+pub fresh_is : (p : ℕ) (sheet : Sheet) (t : Bool) → stamp_of sheet p ≡ None → is_fresh p sheet ≡ t → is_untouched sheet ≡ t
+fresh_is p sheet t unknown e = grind (arith, unknown, e)
+
+-- an untouched sheet agreed to no ballot
+pub untouched_below : (sheet : Sheet) (b : ℕ) → is_untouched sheet ≡ true → (nat_lt 0 b && nat_lt b LIMIT) ≡ true
+    → (nat_lt sheet.ballot b ≡ true) × ((nat_lt sheet.ballot b && nat_lt b LIMIT) ≡ true)
+untouched_below sheet b untouched tried =
+    let none : sheet.ballot ≡ 0 = eqb-true sheet.ballot 0 (and_parts (is_none sheet.proposal) (sheet.ballot == 0) untouched).1 in
+    let both = and_parts (nat_lt 0 b) (nat_lt b LIMIT) tried in (
+      ap (λ (n : ℕ). nat_lt n b) none ∙ both.0,
+      ap (λ (n : ℕ). nat_lt n b && nat_lt b LIMIT) none ∙ tried,
+    )
+
+abbrev pub proposed_at : ℕ → Command → SiteSheet → SiteSheet
+proposed_at t k old = keeping (with_proposal t Recovery (kept k old.sheet)) old
+
+promises : (b : ℕ) (x : SiteSheet) → nat_lt x.sheet.ballot b ≡ true → with_promise b x ≡ keeping (with_ballot b x.sheet) x
+promises b x above = ap (λ (a : Bool). keeping (cond a (with_ballot b x.sheet) x.sheet) x) above
+
+-- a ballot that is above is not refused
+pub not_refused : (b t : ℕ) (k : Command) (x : SiteSheet) → nat_lt x.sheet.ballot b ≡ true → promise_by b (proposed_at t k x) ≡ None → ⊥
+not_refused b t k x above e =
+    let some : Some (answer_of (proposed_at t k x)) ≡ None = ap (λ (a : Bool). cond a (Some (answer_of (proposed_at t k x))) None) (sym above) ∙ e in
+    absurd cc
+
 module _ {S : Type 0} (shape : Shape) (site : Site) (clock told : ℕ) (pairs : List Pair) (sheets : IndexMap CommandId SiteSheet S) (c : Command) (s : ProcessState)
     (h : Agrees shape site clock told pairs sheets s) where
   abbrev sheet : Sheet
@@ -117,10 +149,14 @@ module _ {S : Type 0} (shape : Shape) (site : Site) (clock told : ℕ) (pairs : 
   abbrev joining : ActorName → ℕ → Moved
   joining from b = joined (ring_setting shape) site from c b sheet s
 
-  pub join_refused : (from : ActorName) (b : ℕ) → takes b ≡ false → with_room s (on_rec_by (ring_setting shape) site from c b None s) ≡ (s, [])
+  join_refused : (from : ActorName) (b : ℕ) → takes b ≡ false → with_room s (on_rec_by (ring_setting shape) site from c b None s) ≡ (s, [])
   join_refused from b e =
       ap (λ (moved : Moved). with_room s moved) (cond-false {A = Moved} (takes_in b) (joining from b) (s, []) (same_test b ∙ e))
       ∙ has_room (s, []) refl
+
+  pub join_untried : (from : ActorName) (b : ℕ) → (nat_lt 0 b && nat_lt b LIMIT) ≡ false
+      → with_room s (on_rec_by (ring_setting shape) site from c b None s) ≡ (s, [])
+  join_untried from b e = join_refused from b (untried (sheet_at shape site sheets c.id).sheet.ballot b e)
 
   join_taken : (from : ActorName) (b : ℕ) → takes b ≡ true
       → with_room s (on_rec_by (ring_setting shape) site from c b None s) ≡ with_room s (joining from b)
@@ -135,12 +171,24 @@ module _ {S : Type 0} (shape : Shape) (site : Site) (clock told : ℕ) (pairs : 
   abbrev agreeing : ActorName → ℕ → Moved
   agreeing from b = agreed site from c b sheet s
 
-  pub join_agrees : (from : ActorName) (b : ℕ) → takes b ≡ true → is_untouched (sheet_at shape site sheets c.id).sheet ≡ false
-      → with_room s (on_rec_by (ring_setting shape) site from c b None s) ≡ agreeing from b
-  join_agrees from b e touched =
-      join_taken from b e
-      ∙ ap (λ (moved : Moved). with_room s moved) (cond-false {A = Moved} (is_untouched sheet) (late from b) (agreeing from b) (untouched_in false touched))
-      ∙ has_room (agreeing from b) refl
+  -- where there is something to tell
+  pub join_agrees : (from : ActorName) (b : ℕ) → (nat_lt 0 b && nat_lt b LIMIT) ≡ true → is_untouched (sheet_at shape site sheets c.id).sheet ≡ false
+      → with_room s (on_rec_by (ring_setting shape) site from c b None s) ≡ agreed_above site from c b s
+  join_agrees from b tried touched = go (nat_lt sheet.ballot b) refl
+    where
+      low : nat_lt b LIMIT ≡ true
+      low = (and_parts (nat_lt 0 b) (nat_lt b LIMIT) tried).1
+
+      there : (above : Bool) → nat_lt sheet.ballot b ≡ above → takes b ≡ (above && true)
+      there above e = sym (same_test b) ∙ ap (λ (x : Bool). x && nat_lt b LIMIT) e ∙ ap (λ (x : Bool). above && x) low
+
+      go : (above : Bool) → nat_lt sheet.ballot b ≡ above
+          → with_room s (on_rec_by (ring_setting shape) site from c b None s) ≡ cond {A = Moved} above (agreeing from b) (s, [])
+      go true e =
+          join_taken from b (there true e)
+          ∙ ap (λ (moved : Moved). with_room s moved) (cond-false {A = Moved} (is_untouched sheet) (late from b) (agreeing from b) (untouched_in false touched))
+          ∙ has_room (agreeing from b) refl
+      go false e = join_refused from b (there false e)
 
   proposing_late : (from : ActorName) (b : ℕ) → takes b ≡ true → is_untouched (sheet_at shape site sheets c.id).sheet ≡ true
       → with_room s (on_rec_by (ring_setting shape) site from c b None s) ≡ with_room s (late from b)
@@ -173,29 +221,74 @@ module _ {S : Type 0} (shape : Shape) (site : Site) (clock told : ℕ) (pairs : 
         subst (λ (n : ℕ). n < LIMIT) same (stamp_low 0 s.clock (omega arith) below),
       )
 
-  abbrev agreed_sheet : ℕ → Command → Sheet → Sheet
-  agreed_sheet b k old = with_ballot b (kept k old)
-
-  pub agrees_now : (new : IndexMap CommandId SiteSheet S) (copy : Command) (b : ℕ) → is_command_at shape site.partition.0 c ≡ true → copy ≡ c
-      → ChangesSheet shape site sheets new copy.id (keeping (agreed_sheet b copy (sheet_at shape site sheets copy.id).sheet) (sheet_at shape site sheets copy.id))
-      → Agrees shape site clock told pairs new (with_sheet c.id (agreed_sheet b c sheet) s)
-  agrees_now new copy b homed same change =
-      let now : ChangesSheet shape site sheets new c.id (keeping (agreed_sheet b c (sheet_at shape site sheets c.id).sheet) (sheet_at shape site sheets c.id)) =
-      subst (λ (k : Command). ChangesSheet shape site sheets new k.id (keeping (agreed_sheet b k (sheet_at shape site sheets k.id).sheet) (sheet_at shape site sheets k.id))) same change in
-      changed shape site clock told pairs sheets new c.id _ (agreed_sheet b c sheet) s now
-      (ap (λ (old : SiteSheet). keeping (agreed_sheet b c old.sheet) old) (h.sheets_are c.id))
-      (with_ballot_low b (kept c sheet) (kept_low site.partition.0 c sheet homed (h.low c.id))) h
-
   abbrev late_sheet : ℕ → ℕ → Command → Sheet → Sheet
   late_sheet b t k old = with_ballot b (with_proposal t Recovery (kept k old))
 
+  -- the sheet of a command that is kept, with the proposal and the ballot agreed to
   pub proposes_late_now : (new : IndexMap CommandId SiteSheet S) (copy : Command) (b t : ℕ) → is_command_at shape site.partition.0 c ≡ true → copy ≡ c
-      → ChangesSheet shape site sheets new copy.id (keeping (late_sheet b t copy (sheet_at shape site sheets copy.id).sheet) (sheet_at shape site sheets copy.id))
+      → nat_lt (sheet_at shape site sheets c.id).sheet.ballot b ≡ true
+      → ChangesSheet shape site sheets new copy.id (with_promise b (proposed_at t copy (sheet_at shape site sheets copy.id)))
       → Agrees shape site clock told pairs new (with_sheet c.id (late_sheet b t c sheet) s)
-  proposes_late_now new copy b t homed same change =
-      let now : ChangesSheet shape site sheets new c.id (keeping (late_sheet b t c (sheet_at shape site sheets c.id).sheet) (sheet_at shape site sheets c.id)) =
-      subst (λ (k : Command). ChangesSheet shape site sheets new k.id (keeping (late_sheet b t k (sheet_at shape site sheets k.id).sheet) (sheet_at shape site sheets k.id))) same change in
+  proposes_late_now new copy b t homed same above change =
+      let now : ChangesSheet shape site sheets new c.id (with_promise b (proposed_at t c (sheet_at shape site sheets c.id))) =
+      subst (λ (k : Command). ChangesSheet shape site sheets new k.id (with_promise b (proposed_at t k (sheet_at shape site sheets k.id)))) same change in
       changed shape site clock told pairs sheets new c.id _ (late_sheet b t c sheet) s now
-      (ap (λ (old : SiteSheet). keeping (late_sheet b t c old.sheet) old) (h.sheets_are c.id))
+      (promises b (proposed_at t c (sheet_at shape site sheets c.id)) above
+      ∙ ap (λ (old : SiteSheet). keeping (late_sheet b t c old.sheet) old) (h.sheets_are c.id))
       (with_ballot_low b (with_proposal t Recovery (kept c sheet))
       (with_proposal_low t Recovery (kept c sheet) (kept_low site.partition.0 c sheet homed (h.low c.id)))) h
+
+  -- what is told is what the rules tell
+  pub tells_late : (copy : Command) (b t : ℕ) (told_now : RecoveryAnswer) → copy ≡ c → promise_by b (proposed_at t copy (sheet_at shape site sheets copy.id)) ≡ Some told_now
+      → (from : ActorName) → answer_with site from c.id b told_now ≡ answer site from c.id b (late_sheet b t c sheet)
+  tells_late copy b t told_now same e from =
+      let now : promise_by b (proposed_at t c (sheet_at shape site sheets c.id)) ≡ Some told_now =
+      subst (λ (k : Command). promise_by b (proposed_at t k (sheet_at shape site sheets k.id)) ≡ Some told_now) same e in
+      ap (λ (a : RecoveryAnswer). answer_with site from c.id b a)
+      (sym (cond_some (nat_lt (sheet_at shape site sheets c.id).sheet.ballot b) (answer_of (proposed_at t c (sheet_at shape site sheets c.id))) told_now now).1
+      ∙ ap (λ (old : SiteSheet). answer_of (proposed_at t c old)) (h.sheets_are c.id))
+
+-- agreed to a ballot above the one agreed to before
+
+module _ {S : Type 0} (shape : Shape) (site : Site) (clock told : ℕ) (pairs : List Pair) (sheets mid : IndexMap CommandId SiteSheet S)
+    (c : Command) (b : ℕ) (s : ProcessState)
+    (change : ChangesSheet shape site sheets mid c.id (with_promise b (sheet_at shape site sheets c.id)))
+    (h : Agrees shape site clock told pairs sheets s) where
+  abbrev own : Sheet
+  own = s.sheets c.id
+
+  by_own : (o : Option RecoveryAnswer) → promise_by b (sheet_at shape site sheets c.id) ≡ o → promise_by b (site_sheet shape site own) ≡ o
+  by_own o e = ap (λ (x : SiteSheet). promise_by b x) (sym (h.sheets_are c.id)) ∙ e
+
+  is_promised : (above : Bool) → nat_lt own.ballot b ≡ above
+      → with_promise b (sheet_at shape site sheets c.id) ≡ site_sheet shape site (cond above (with_ballot b own) own)
+  is_promised above e =
+      ap (λ (x : SiteSheet). with_promise b x) (h.sheets_are c.id)
+      ∙ ap (λ (a : Bool). site_sheet shape site (cond a (with_ballot b own) own)) e
+
+  -- what is told, the row of the rules, and the sheet
+  pub agrees_some : (told_now : RecoveryAnswer) → promise_by b (sheet_at shape site sheets c.id) ≡ Some told_now
+      → ((from : ActorName) → agreed_above site from c b s ≡ agreed site from c b own s)
+      × (answer_of (site_sheet shape site own) ≡ told_now)
+      × Agrees shape site clock told pairs mid (with_sheet c.id (with_ballot b own) s)
+  agrees_some told_now e =
+      let all = cond_some (nat_lt own.ballot b) (answer_of (site_sheet shape site own)) told_now (by_own (Some told_now) e) in (
+        λ from. cond-true {A = Moved} (nat_lt own.ballot b) (agreed site from c b own s) (s, []) all.0,
+        all.1,
+        changed shape site clock told pairs sheets mid c.id (with_promise b (sheet_at shape site sheets c.id)) (with_ballot b own) s change
+            (is_promised true all.0) (with_ballot_low b own (h.low c.id)) h,
+      )
+
+  below : (above : Bool) (a : RecoveryAnswer) → cond above (Some a) None ≡ None → above ≡ false
+  below true a e = absurd cc
+  below false a e = refl
+
+  pub agrees_none : promise_by b (sheet_at shape site sheets c.id) ≡ None
+      → ((from : ActorName) → agreed_above site from c b s ≡ (s, [])) × Agrees shape site clock told pairs mid s
+  agrees_none e =
+      let under = below (nat_lt own.ballot b) (answer_of (site_sheet shape site own)) (by_own None e) in (
+        λ from. cond-false {A = Moved} (nat_lt own.ballot b) (agreed site from c b own s) (s, []) under,
+        put_back shape site clock told pairs mid c.id s
+            (changed shape site clock told pairs sheets mid c.id (with_promise b (sheet_at shape site sheets c.id)) own s change
+            (is_promised false under) (h.low c.id) h),
+      )

@@ -1,7 +1,8 @@
 -- What it is for a process to be where the rules leave it.
-use Rattle.std.specs.Prelude.{◌≡◌, ◌≤◌, ◌<◌, ◌-◌, ◌==◌, ◌&&◌, ℕ, nat_lt, true, Bool, List, [], ◌∷◌, Option, Some, None}
+use Rattle.std.specs.Prelude.{◌≡◌, ◌≤◌, ◌<◌, ◌-◌, ◌==◌, ◌&&◌, ℕ, nat_lt, true, Bool, cond, List, [], ◌∷◌, Option, Some, None}
 use Rattle.indexmap.specs.IndexMap.{IndexMap}
 use Rattle.tp_base.specs.Lists.{Each}
+use Rattle.tp_base.specs.declared.names.ActorName.{ActorName}
 use Rattle.tp_base.specs.declared.names.ActorName.TheVariants.{Process as OfProcess, Executor as OfExecutor}
 use Rattle.tp_base.specs.declared.names.CommandId.{CommandId}
 use Rattle.tp_base.specs.declared.names.Pair.{Pair}
@@ -12,11 +13,11 @@ use Rattle.tp_process.specs.Sheets.{sheet_at}
 use Rattle.tp_process.specs.declared.process.Process.{Process}
 use Rattle.tp_rules.specs.Acts.{Act, Identity, ProcessAt}
 use Rattle.tp_rules.specs.Addresses.{is_between, message}
-use Rattle.tp_rules.specs.Process.{LIMIT, ProcessState, state_after, untold}
-use Rattle.tp_rules.specs.Sheet.{Sheet, can_accept, is_fresh, ring_setting}
+use Rattle.tp_rules.specs.Process.{LIMIT, Moved, ProcessState, agreed, state_after, untold}
+use Rattle.tp_rules.specs.Sheet.{Sheet, is_fresh, ring_setting}
 use Rattle.tp_sheet.specs.SiteSheet.{SiteSheet}
 use Rattle.tp_topology.specs.Shape.{Shape}
-use Rattle.tp_wire.specs.declared.message.Body.TheVariants.{MCommitted}
+use Rattle.tp_wire.specs.declared.message.Body.TheVariants.{MCommitted, MRecAck}
 use Rattle.tp_wire.specs.declared.message.Message.{Message}
 
 abbrev pub identity : Process → Identity
@@ -79,13 +80,13 @@ takes_proposal p c = is_fresh (kept_of p c.id).site.partition.0 (kept_of p c.id)
 abbrev pub takes_submission : Process → Command → Bool
 takes_submission p c = (c.home.0 == p.place.site.rank.0) && takes_proposal p c
 
--- whether the process accepts at a ballot, by the sheet
-abbrev pub takes_ballot : Process → Command → ℕ → Bool
-takes_ballot p c b = can_accept (kept_of p c.id).site.partition.0 b (kept_of p c.id).sheet && nat_lt b LIMIT
+-- what is told to a recovery at a ballot
+abbrev pub answer_with : Site → ActorName → CommandId → ℕ → RecoveryAnswer → Message
+answer_with me from id b told = message (OfProcess me) from (MRecAck id told.stamp told.made told.accepted b)
 
--- whether the process answers a recovery at a ballot, by the sheet
-abbrev pub takes_recovery : Process → Command → ℕ → Bool
-takes_recovery p c b = nat_lt (kept_of p c.id).sheet.ballot b && nat_lt b LIMIT
+-- agreed to a ballot that is above the one agreed to before
+abbrev pub agreed_above : Site → ActorName → Command → ℕ → ProcessState → Moved
+agreed_above me from c b s = cond (nat_lt (s.sheets c.id).ballot b) (agreed me from c b (s.sheets c.id) s) (s, [])
 
 -- the final stamp, told to the site's executor
 abbrev pub committed : Site → Option Command → ℕ → List Message

@@ -6,9 +6,8 @@ ghost use Rattle.tp_rules.specs.Addresses.{site, to_each, accessed, others_acces
 use crate::place::Place;
 use std::alloc::Global;
 use tp_base::{ActorName, Duplicate, NoMemory, PartitionId, Rank, Sequence, Site};
-use tp_ops::Command;
+use tp_ops::{Command, accesses};
 use tp_rules::Outputs;
-use tp_sheet::accesses;
 use tp_topology::Topology;
 use tp_wire::{Body, Message};
 

@@ -7,9 +7,8 @@ ghost use Rattle.tp_rules.specs.Sheet.{Sheet, ring_setting};
 use crate::process::Process;
 use crate::sheets::{command_at, keep, learn};
 use tp_base::{ActorName, CommandId, Duplicate, NoMemory, PartitionId, Stamp};
-use tp_ops::Command;
+use tp_ops::{Command, accesses};
 use tp_rules::Outputs;
-use tp_sheet::accesses;
 use tp_wire::{Body, Message};
 
 impl Process {

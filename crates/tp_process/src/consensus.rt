@@ -1,12 +1,12 @@
 ghost use Rattle.std.specs.Prelude.{◌≡◌, ◌<◌, ◌∷◌, [], true, IfOk, OnOk};
-ghost use Rattle.tp_process.specs.State.{IsState, identity, takes_ballot};
+ghost use Rattle.tp_process.specs.State.{IsState, identity};
 ghost use Rattle.tp_rules.specs.Addresses.{is_between, is_command_at, is_name_of, message, site};
 ghost use Rattle.tp_rules.specs.Process.{LIMIT as the_limit, ProcessState, on_consensus, on_consensus_ack};
 ghost use Rattle.tp_rules.specs.Sheet.{ring_setting};
 ghost use Rattle.tp_wire.specs.Ranges.{IsProcess};
 
 use crate::process::{LIMIT, Process};
-use crate::sheets::{accept, can_accept, vote};
+use crate::sheets::{accept, keep, vote};
 use tp_base::{ActorName, CommandId, Duplicate, NoMemory, Rank, Stamp};
 use tp_ops::Command;
 use tp_rules::Outputs;
@@ -26,17 +26,15 @@ impl Process {
         ensures outputs { IfOk result (λ outputs. (s : ProcessState) → IsState self.old s → outputs ≡ (on_consensus self.old.place.site from command.now stamp.0 ballot s).1) }
         ensures state { OnOk result ((s : ProcessState) → IsState self.old s → stamp.0 < the_limit → IsState self.new (on_consensus self.old.place.site from command.now stamp.0 ballot s).0) }
     {
-        if !self.takes_ballot(command, ballot) {
+        if LIMIT <= ballot {
             return Ok(self.nothing());
         }
+        let accepted = accept(&mut self.sheets, &self.place, command.id, stamp, ballot)?;
+        if !accepted {
+            return Ok(self.nothing());
+        }
+        keep(&mut self.sheets, &self.place, command.copy()?)?;
         let outputs = self.agreement(from, command.id, ballot)?;
-        accept(
-            &mut self.sheets,
-            &self.place,
-            command.copy()?,
-            stamp,
-            ballot,
-        )?;
         self.bump(stamp);
         Ok(outputs)
     }
@@ -69,12 +67,6 @@ impl Process {
             Some(stamp) => self.decide(id, stamp),
             None => Ok(self.nothing()),
         }
-    }
-
-    fn takes_ballot(&self, command: &Command, ballot: u64) -> bool
-        ensures { result ≡ takes_ballot self.now command.now ballot }
-    {
-        can_accept(&self.sheets, &self.place, command.id, ballot) && ballot < LIMIT
     }
 
     /// The vote for what a rank puts at a ballot.

@@ -5,8 +5,7 @@ ghost use Rattle.tp_rules.specs.Addresses.{is_between, is_site_of, is_name_of, i
 ghost use Rattle.tp_sheet.specs.SiteSheet.{IsSiteOf};
 
 use tp_base::{ActorName, PartitionId, Rank, Site};
-use tp_ops::Command;
-use tp_sheet::accesses;
+use tp_ops::{Command, accesses};
 use tp_topology::Topology;
 use tp_wire::{Body, Message};
 

@@ -1,15 +1,13 @@
-ghost use Rattle.std.specs.Prelude.{◌≡◌, ◌<◌, ◌-◌, ◌∷◌, [], nat_lt, true, Option, None, IfOk, OnOk};
-ghost use Rattle.tp_process.specs.State.{IsState, identity, kept_of, takes_recovery};
+ghost use Rattle.std.specs.Prelude.{◌≡◌, ◌<◌, ◌-◌, ◌∷◌, ◌&&◌, [], nat_lt, true, Option, None, IfOk, OnOk};
+ghost use Rattle.tp_process.specs.State.{IsState, agreed_above, answer_with, identity, kept_of};
 ghost use Rattle.tp_rules.specs.Addresses.{is_between, is_command_at, is_name_of, site};
-ghost use Rattle.tp_rules.specs.Process.{LIMIT as the_limit, ProcessState, agreed, answer as answer_in, asked, bumps, next_stamp, on_rec, on_rec_ack, on_rec_by, on_recover, proposed_late, told as told_in, with_room};
-ghost use Rattle.tp_rules.specs.Sheet.{command_or as kept_or, ring_setting};
+ghost use Rattle.tp_rules.specs.Process.{LIMIT as the_limit, ProcessState, asked, bumps, next_stamp, on_rec, on_rec_ack, on_rec_by, on_recover, proposed_late, told as told_in, with_room};
+ghost use Rattle.tp_rules.specs.Sheet.{command_or as kept_or, ring_setting, stamp_of};
 ghost use Rattle.tp_wire.specs.Ranges.{IsProcess};
 
 use crate::addresses::{processes_of, send_each};
 use crate::process::{LIMIT, Process};
-use crate::sheets::{
-    agree, answer, ballot_at, command_at, is_untouched, propose_late, recover, stamp_at, told,
-};
+use crate::sheets::{answer, command_at, is_fresh, keep, promise, propose_late, recover, stamp_at};
 use tp_base::{ActorName, CommandId, Duplicate, Made, NoMemory, Rank, Stamp};
 use tp_choice::RecoveryAnswer;
 use tp_ops::Command;
@@ -97,15 +95,16 @@ impl Process {
     /// Answers a recovery at a ballot above the own one, with a proposal made first where there is
     /// nothing to tell.
     fn join(&mut self, from: ActorName, command: &Command, ballot: u64) -> Result<Outputs, NoMemory>
-        requires { is_command_at self.old.place.topology self.old.place.site.partition.0 command.now ≡ true }
+        requires command { is_command_at self.old.place.topology self.old.place.site.partition.0 command.now ≡ true }
+        requires unknown { stamp_of (kept_of self.old command.now.id).sheet self.old.place.site.partition.0 ≡ None }
         ensures identity { identity self.new ≡ identity self.old }
         ensures outputs { IfOk result (λ outputs. (s : ProcessState) → IsState self.old s → outputs ≡ (with_room s (on_rec_by (ring_setting self.old.place.topology) self.old.place.site from command.now ballot None s)).1) }
         ensures state { OnOk result ((s : ProcessState) → IsState self.old s → IsState self.new (with_room s (on_rec_by (ring_setting self.old.place.topology) self.old.place.site from command.now ballot None s)).0) }
     {
-        if !self.takes_recovery(command, ballot) {
+        if !is_tried(ballot) {
             return Ok(self.nothing());
         }
-        if !is_untouched(&self.sheets, &self.place, command.id) {
+        if !is_fresh(&self.sheets, &self.place, command.id) {
             return self.agree(from, command, ballot);
         }
         if !self.has_room() {
@@ -114,6 +113,7 @@ impl Process {
         self.propose_late(from, command, ballot)
     }
 
+    /// Answers a recovery at a ballot above the own one with what there is to tell.
     fn agree(
         &mut self,
         from: ActorName,
@@ -122,13 +122,18 @@ impl Process {
     ) -> Result<Outputs, NoMemory>
         requires { is_command_at self.old.place.topology self.old.place.site.partition.0 command.now ≡ true }
         ensures identity { identity self.new ≡ identity self.old }
-        ensures outputs { IfOk result (λ outputs. (s : ProcessState) → IsState self.old s → outputs ≡ (agreed self.old.place.site from command.now ballot (s.sheets command.now.id) s).1) }
-        ensures state { OnOk result ((s : ProcessState) → IsState self.old s → IsState self.new (agreed self.old.place.site from command.now ballot (s.sheets command.now.id) s).0) }
+        ensures outputs { IfOk result (λ outputs. (s : ProcessState) → IsState self.old s → outputs ≡ (agreed_above self.old.place.site from command.now ballot s).1) }
+        ensures state { OnOk result ((s : ProcessState) → IsState self.old s → IsState self.new (agreed_above self.old.place.site from command.now ballot s).0) }
     {
-        agree(&mut self.sheets, &self.place, command.copy()?, ballot)?;
-        let mut outputs = self.nothing();
-        outputs.add(self.answer(from, command.id, ballot))?;
-        Ok(outputs)
+        match promise(&mut self.sheets, &self.place, command.id, ballot)? {
+            Some(told) => {
+                keep(&mut self.sheets, &self.place, command.copy()?)?;
+                let mut outputs = self.nothing();
+                outputs.add(self.answer(from, command.id, told, ballot))?;
+                Ok(outputs)
+            }
+            None => Ok(self.nothing()),
+        }
     }
 
     fn propose_late(
@@ -138,22 +143,22 @@ impl Process {
         ballot: u64,
     ) -> Result<Outputs, NoMemory>
         requires command { is_command_at self.old.place.topology self.old.place.site.partition.0 command.now ≡ true }
+        requires above { nat_lt (kept_of self.old command.now.id).sheet.ballot ballot ≡ true }
         requires room { nat_lt self.old.clock.clock (the_limit - 1) ≡ true }
         ensures identity { identity self.new ≡ identity self.old }
         ensures outputs { IfOk result (λ outputs. (s : ProcessState) → IsState self.old s → outputs ≡ (proposed_late (ring_setting self.old.place.topology) self.old.place.site from command.now ballot (next_stamp 0 s) (s.sheets command.now.id) s).1) }
         ensures state { OnOk result ((s : ProcessState) → IsState self.old s → IsState self.new (proposed_late (ring_setting self.old.place.topology) self.old.place.site from command.now ballot (next_stamp 0 s) (s.sheets command.now.id) s).0) }
     {
         let stamp = self.clock.propose(0);
-        propose_late(
-            &mut self.sheets,
-            &self.place,
-            command.copy()?,
-            ballot,
-            stamp,
-        )?;
-        let outputs = self.late_answer(from, command, ballot, stamp)?;
-        self.promise(command.id, stamp)?;
-        Ok(outputs)
+        let copy = command.copy()?;
+        match propose_late(&mut self.sheets, &self.place, copy, ballot, stamp)? {
+            Some(told) => {
+                let outputs = self.late_answer(from, command, told, ballot, stamp)?;
+                self.promise(command.id, stamp)?;
+                Ok(outputs)
+            }
+            None => Ok(self.nothing()),
+        }
     }
 
     /// The answer to a recovery that a proposal was made for, with the bumps of the proposal.
@@ -161,21 +166,21 @@ impl Process {
         &self,
         from: ActorName,
         command: &Command,
+        told: RecoveryAnswer,
         ballot: u64,
         stamp: Stamp,
     ) -> Result<Outputs, NoMemory>
-        ensures { IfOk result (λ outputs. outputs ≡ answer_in self.now.place.site from command.now.id ballot (kept_of self.now command.now.id).sheet ∷ bumps self.now.place.topology self.now.place.site (kept_or command.now (kept_of self.now command.now.id).sheet) stamp.0) }
+        ensures { IfOk result (λ outputs. outputs ≡ answer_with self.now.place.site from command.now.id ballot told ∷ bumps self.now.place.topology self.now.place.site (kept_or command.now (kept_of self.now command.now.id).sheet) stamp.0) }
     {
         let mut outputs = self.nothing();
-        outputs.add(self.answer(from, command.id, ballot))?;
+        outputs.add(self.answer(from, command.id, told, ballot))?;
         self.tell_bumps(&mut outputs, command, stamp)?;
         Ok(outputs)
     }
 
-    fn answer(&self, from: ActorName, id: CommandId, ballot: u64) -> Message
-        ensures { result ≡ answer_in self.now.place.site from id ballot (kept_of self.now id).sheet }
+    fn answer(&self, from: ActorName, id: CommandId, told: RecoveryAnswer, ballot: u64) -> Message
+        ensures { result ≡ answer_with self.now.place.site from id ballot told }
     {
-        let told = told(&self.sheets, &self.place, id);
         Message {
             from: self.place.name(),
             to: from,
@@ -187,12 +192,6 @@ impl Process {
                 ballot,
             },
         }
-    }
-
-    fn takes_recovery(&self, command: &Command, ballot: u64) -> bool
-        ensures { result ≡ takes_recovery self.now command.now ballot }
-    {
-        ballot_at(&self.sheets, &self.place, command.id) < ballot && ballot < LIMIT
     }
 
     /// Tells the partition's stamp of a command to the one that recovers it.
@@ -230,4 +229,11 @@ impl Process {
         }
         Ok(outputs)
     }
+}
+
+/// Whether a recovery may try a ballot.
+fn is_tried(ballot: u64) -> bool
+    ensures { result ≡ (nat_lt 0 ballot && nat_lt ballot the_limit) }
+{
+    0 < ballot && ballot < LIMIT
 }

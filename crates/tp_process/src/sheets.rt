@@ -1,8 +1,8 @@
 ghost use Rattle.std.specs.Prelude.{◌≡◌, ◌≤◌, OnOk, IfOk};
 ghost use Rattle.std.specs.Option.{option_copied, option_map};
 ghost use Rattle.tp_process.specs.Sheets.{sheet_at, OpensSheet, ChangesSheet};
-ghost use Rattle.tp_rules.specs.Sheet.{can_accept as can_accept_in, command_or as kept_or, is_fresh as is_fresh_in, is_untouched as is_untouched_in, kept, stamp_of, with_accepted, with_ballot, with_proposal};
-ghost use Rattle.tp_sheet.specs.SiteSheet.{with_sheet, with_own, choice_by, with_acknowledgement, decision_by, with_vote_of, with_known, final_of, final_by, answer_of, ballot_by, with_try, recovery_by, with_answer_of};
+ghost use Rattle.tp_rules.specs.Sheet.{can_accept, command_or as kept_or, is_fresh as is_fresh_in, kept, stamp_of, with_proposal};
+ghost use Rattle.tp_sheet.specs.SiteSheet.{with_sheet, with_own, choice_by, with_acknowledgement, decision_by, with_vote_of, with_known, final_of, final_by, ballot_by, promise_by, with_try, recovery_by, with_acceptance, with_answer_of, with_promise};
 
 use crate::place::Place;
 use indexmap::IndexMap;
@@ -135,33 +135,22 @@ pub(crate) fn acknowledge(
     }
 }
 
-/// Whether a stamp of a command can be accepted at a ballot.
-pub(crate) fn can_accept(sheets: &Sheets, place: &Place, id: CommandId, ballot: u64) -> bool
-    ensures { let kept = sheet_at place.now.topology place.now.site sheets.now id in result ≡ can_accept_in kept.site.partition.0 ballot kept.sheet }
-{
-    match sheets.get(&id) {
-        Some(sheet) => sheet.can_accept(ballot),
-        None => true,
-    }
-}
-
-/// Keeps a command in its sheet, with a stamp accepted at a ballot.
+/// Accepts a stamp for a command at a ballot, where it can be, and tells whether it did.
 pub(crate) fn accept(
     sheets: &mut Sheets,
     place: &Place,
-    command: Command,
+    id: CommandId,
     stamp: Stamp,
     ballot: u64,
-) -> Result<(), NoMemory>
-    ensures { OnOk result (let old = sheet_at place.now.topology place.now.site sheets.old command.id in ChangesSheet place.now.topology place.now.site sheets.old sheets.new command.id (with_sheet (with_accepted ballot stamp.0 (kept command old.sheet)) old)) }
+) -> Result<bool, NoMemory>
+    ensures accepts { IfOk result (λ accepted. let kept = sheet_at place.now.topology place.now.site sheets.old id in accepted ≡ can_accept kept.site.partition.0 ballot kept.sheet) }
+    ensures changed { OnOk result (ChangesSheet place.now.topology place.now.site sheets.old sheets.new id (with_acceptance stamp.0 ballot (sheet_at place.now.topology place.now.site sheets.old id))) }
 {
-    let id = command.id;
     open(sheets, place, id)?;
-    if let Some(sheet) = sheets.get_mut(&id) {
-        sheet.keep(command);
-        sheet.accept(stamp, ballot);
+    match sheets.get_mut(&id) {
+        Some(sheet) => Ok(sheet.accept(stamp, ballot)),
+        None => Ok(false),
     }
-    Ok(())
 }
 
 /// Takes a rank's vote at a ballot, and gives the stamp that is decided with it.
@@ -196,77 +185,45 @@ pub(crate) fn stamp_at(
     }
 }
 
-/// The greatest ballot that was agreed to for a command.
-pub(crate) fn ballot_at(sheets: &Sheets, place: &Place, id: CommandId) -> u64
-    ensures { result ≡ (sheet_at place.now.topology place.now.site sheets.now id).sheet.ballot }
-{
-    match sheets.get(&id) {
-        Some(sheet) => sheet.ballot(),
-        None => 0,
-    }
-}
-
-/// Whether a command has no proposal and no ballot.
-pub(crate) fn is_untouched(sheets: &Sheets, place: &Place, id: CommandId) -> bool
-    ensures { result ≡ is_untouched_in (sheet_at place.now.topology place.now.site sheets.now id).sheet }
-{
-    match sheets.get(&id) {
-        Some(sheet) => sheet.is_untouched(),
-        None => true,
-    }
-}
-
-/// What is told to a recovery of a command.
-pub(crate) fn told(sheets: &Sheets, place: &Place, id: CommandId) -> RecoveryAnswer
-    ensures { result ≡ answer_of (sheet_at place.now.topology place.now.site sheets.now id) }
-{
-    match sheets.get(&id) {
-        Some(sheet) => sheet.told(),
-        None => RecoveryAnswer {
-            rank: place.site.rank,
-            stamp: Stamp(0),
-            made: Made::Proposal,
-            accepted: 0,
-        },
-    }
-}
-
-/// Keeps a command in its sheet, with a ballot agreed to.
-pub(crate) fn agree(
+/// Agrees to a ballot for a command, where none as great was agreed to, and gives what is told to
+/// its recovery.
+pub(crate) fn promise(
     sheets: &mut Sheets,
     place: &Place,
-    command: Command,
+    id: CommandId,
     ballot: u64,
-) -> Result<(), NoMemory>
-    ensures { OnOk result (let old = sheet_at place.now.topology place.now.site sheets.old command.id in ChangesSheet place.now.topology place.now.site sheets.old sheets.new command.id (with_sheet (with_ballot ballot (kept command old.sheet)) old)) }
+) -> Result<Option<RecoveryAnswer>, NoMemory>
+    ensures answer { IfOk result (λ told. told ≡ promise_by ballot (sheet_at place.now.topology place.now.site sheets.old id)) }
+    ensures changed { OnOk result (ChangesSheet place.now.topology place.now.site sheets.old sheets.new id (with_promise ballot (sheet_at place.now.topology place.now.site sheets.old id))) }
 {
-    let id = command.id;
     open(sheets, place, id)?;
-    if let Some(sheet) = sheets.get_mut(&id) {
-        sheet.keep(command);
-        sheet.agree(ballot);
+    match sheets.get_mut(&id) {
+        Some(sheet) => Ok(sheet.promise(ballot)),
+        None => Ok(None),
     }
-    Ok(())
 }
 
-/// Keeps a command in its sheet, with a proposal that a recovery makes and its ballot agreed to.
+/// Keeps a command in its sheet, with a proposal that a recovery makes, and agrees to its ballot.
 pub(crate) fn propose_late(
     sheets: &mut Sheets,
     place: &Place,
     command: Command,
     ballot: u64,
     stamp: Stamp,
-) -> Result<(), NoMemory>
-    ensures { OnOk result (let old = sheet_at place.now.topology place.now.site sheets.old command.id in ChangesSheet place.now.topology place.now.site sheets.old sheets.new command.id (with_sheet (with_ballot ballot (with_proposal stamp.0 Made.Recovery (kept command old.sheet))) old)) }
+) -> Result<Option<RecoveryAnswer>, NoMemory>
+    ensures answer { IfOk result (λ told. let old = sheet_at place.now.topology place.now.site sheets.old command.id in told ≡ promise_by ballot (with_sheet (with_proposal stamp.0 Made.Recovery (kept command old.sheet)) old)) }
+    ensures changed { OnOk result (let old = sheet_at place.now.topology place.now.site sheets.old command.id in ChangesSheet place.now.topology place.now.site sheets.old sheets.new command.id (with_promise ballot (with_sheet (with_proposal stamp.0 Made.Recovery (kept command old.sheet)) old))) }
 {
     let id = command.id;
     open(sheets, place, id)?;
-    if let Some(sheet) = sheets.get_mut(&id) {
-        sheet.keep(command);
-        sheet.propose(stamp, Made::Recovery);
-        sheet.agree(ballot);
+    match sheets.get_mut(&id) {
+        Some(sheet) => {
+            sheet.keep(command);
+            sheet.propose(stamp, Made::Recovery);
+            Ok(sheet.promise(ballot))
+        }
+        None => Ok(None),
     }
-    Ok(())
 }
 
 /// Tries the next ballot for a command, where it can be recovered, and gives it.

@@ -29,16 +29,16 @@ count_of-length n (m ∷ ms) = let rest = count_of-length n ms in grind (arith, 
 
 -- one place more
 
-pub present_some : (table : List (Option ℕ)) (i x : ℕ) → get_or table i None ≡ Some x → i < length table
+pub present_some : {X : Type 0} (table : List (Option X)) (i : ℕ) (x : X) → get_or table i None ≡ Some x → i < length table
     → (present (take (i + 1) table) ≡ present (take i table) ++ x ∷ [])
 present_some table i x e lt =
-    ap (λ (t : List (Option ℕ)). present t) ((take_at_read table i None lt).1 ∙ ap (λ (o : Option ℕ). take i table ++ o ∷ []) e)
+    ap (λ (t : List (Option _)). present t) ((take_at_read table i None lt).1 ∙ ap (λ (o : Option _). take i table ++ o ∷ []) e)
     ∙ present_push (take i table) (Some x)
 
-pub present_none : (table : List (Option ℕ)) (i : ℕ) → get_or table i None ≡ None → i < length table
+pub present_none : {X : Type 0} (table : List (Option X)) (i : ℕ) → get_or table i None ≡ None → i < length table
     → (present (take (i + 1) table) ≡ present (take i table))
 present_none table i e lt =
-    ap (λ (t : List (Option ℕ)). present t) ((take_at_read table i None lt).1 ∙ ap (λ (o : Option ℕ). take i table ++ o ∷ []) e)
+    ap (λ (t : List (Option _)). present t) ((take_at_read table i None lt).1 ∙ ap (λ (o : Option _). take i table ++ o ∷ []) e)
     ∙ present_push (take i table) None
     ∙ append-nil (present (take i table))
 

@@ -13,7 +13,7 @@ use Rattle.tp_rules.specs.Tables.{kept_at}
 use Rattle.tp_topology.specs.Counting.{up_to}
 use Rattle.tp_topology.specs.Shape.{Shape}
 use Rattle.tp_sheet.specs.SiteSheet.{SiteSheet, final_of}
-use Rattle.tp_sheet.proofs.Present.{present_push, greatest_push}
+use Rattle.tp_quorum.proofs.Present.{present_push, greatest_push}
 
 module _ (stamp : ℕ → Option ℕ) (test : ℕ → Bool) where
   -- what the partitions up to n that pass the test keep

@@ -1,4 +1,4 @@
-pub mod Present
 pub mod Tables
 pub mod Known
+pub mod Learned
 pub mod Listed

@@ -3,7 +3,7 @@ use Rattle.std.proofs.Common.{◌≡◌, ℕ, zero, suc, ◌+◌, ◌≤◌, ◌
 use Rattle.tp_base.specs.Lists.{Each}
 use Rattle.tp_choice.specs.declared.answer.RecoveryAnswer.{RecoveryAnswer}
 use Rattle.tp_quorum.specs.Choice.{present}
-use Rattle.tp_sheet.proofs.Present.{present_none, present_some}
+use Rattle.tp_quorum.proofs.Present.{present_none, present_some}
 use Rattle.tp_sheet.specs.View.{IsRanked}
 
 pub present_before : {X : Type 0} (table : List (Option X)) (i : ℕ) → length (present (take i table)) ≤ i

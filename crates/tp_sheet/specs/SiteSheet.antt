@@ -1,5 +1,5 @@
 -- A sheet with the site that keeps it, and what a call makes of it.
-use Rattle.std.specs.Prelude.{ℕ, ◌≤◌, ◌&&◌, Bool, cond, Option, Some, None, is_none, is_some}
+use Rattle.std.specs.Prelude.{ℕ, ◌≤◌, ◌==◌, ◌&&◌, nat_lt, Bool, cond, Option, Some, None, is_none, is_some, length}
 use Rattle.std.specs.Option.{option_map}
 use Rattle.tp_base.specs.declared.names.Rank.{Rank}
 use Rattle.tp_base.specs.declared.names.Site.{Site}
@@ -11,9 +11,9 @@ use Rattle.tp_quorum.specs.declared.choice.FastChoice.{FastChoice}
 use Rattle.tp_quorum.specs.declared.choice.FastChoice.TheVariants.{Fast, Slow}
 use Rattle.tp_rules.specs.Addresses.{is_between}
 use Rattle.tp_rules.specs.Process.{has_next}
-use Rattle.tp_rules.specs.Sheet.{Sheet, blank, can_acknowledge, acknowledged, acknowledged_own, is_full, putting, can_vote, with_vote, has_consensus, made_of, stamp_told, trying, can_answer, with_answer, is_recovered, ring_setting, stamp_of, with_stamp, final_stamp}
+use Rattle.tp_rules.specs.Sheet.{Sheet, blank, can_acknowledge, acknowledged, acknowledged_own, is_full, is_made_by_proposal, is_member, putting, can_accept, with_accepted, can_vote, with_vote, has_consensus, made_of, stamp_told, with_ballot, trying, can_answer, with_answer, is_recovered, ring_setting, stamp_of, with_stamp, final_stamp}
 use Rattle.tp_topology.specs.Ballots.{next_ballot}
-use Rattle.tp_topology.specs.Shape.{Shape}
+use Rattle.tp_topology.specs.Shape.{Shape, fast_size}
 
 -- what the process of a site keeps of one command
 pub record SiteSheet : Type 0 where
@@ -45,6 +45,13 @@ takes_acknowledgement rank kept =
     is_between rank kept.shape.replicas
     && can_acknowledge (ring_setting kept.shape) kept.site.partition.0 kept.site.rank.0 rank kept.sheet
 
+-- whether the first proposal of a rank counts
+abbrev pub is_gathering : ℕ → SiteSheet → Bool
+is_gathering rank kept =
+    is_member (ring_setting kept.shape) kept.site.rank.0 rank kept.sheet.command && is_made_by_proposal kept.sheet.proposal
+    && (kept.sheet.ballot == 0) && (kept.sheet.putting_ballot == 0) && is_none (stamp_of kept.sheet kept.site.partition.0)
+    && nat_lt (length (present kept.sheet.acknowledged)) (fast_size kept.shape)
+
 -- the own proposal acknowledged, where it counts
 abbrev pub with_own : ℕ → SiteSheet → SiteSheet
 with_own t kept = with_sheet (acknowledged_own (ring_setting kept.shape) kept.site.partition.0 kept.site.rank.0 t kept.sheet) kept
@@ -72,6 +79,11 @@ with_acknowledgement rank t kept = with_sheet
     kept.sheet)
     kept
 
+-- with a stamp accepted at a ballot, where it can be
+abbrev pub with_acceptance : ℕ → ℕ → SiteSheet → SiteSheet
+with_acceptance t b kept =
+    with_sheet (cond (can_accept kept.site.partition.0 b kept.sheet) (with_accepted b t kept.sheet) kept.sheet) kept
+
 -- whether the vote of a rank of the shape counts here, at a ballot
 abbrev pub takes_vote : ℕ → ℕ → SiteSheet → Bool
 takes_vote rank b kept = is_between rank kept.shape.replicas && can_vote kept.site.partition.0 b kept.sheet
@@ -96,6 +108,14 @@ answer_of kept = record {
   made = made_of kept.sheet.proposal;
   accepted = kept.sheet.accepted_ballot;
 }
+
+-- what is told to the recovery at a ballot, where none as great was agreed to
+abbrev pub promise_by : ℕ → SiteSheet → Option RecoveryAnswer
+promise_by b kept = cond (nat_lt kept.sheet.ballot b) (Some (answer_of kept)) None
+
+-- with that ballot agreed to
+abbrev pub with_promise : ℕ → SiteSheet → SiteSheet
+with_promise b kept = with_sheet (cond (nat_lt kept.sheet.ballot b) (with_ballot b kept.sheet) kept.sheet) kept
 
 -- the ballot of a recovery, where a command is kept, the site's partition has no stamp yet, and there is room for it
 abbrev pub ballot_by : SiteSheet → Option ℕ

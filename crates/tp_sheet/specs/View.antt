@@ -1,8 +1,9 @@
 -- What a contract sees of the code's sheet.
-use Rattle.std.specs.Prelude.{◌≤◌, ℕ, Option, Some, None, take}
+use Rattle.std.specs.Prelude.{◌≡◌, ◌≤◌, ℕ, [], Option, Some, None, drop, take}
 use Rattle.std.specs.Option.{option_map}
 use Rattle.tp_base.specs.Lists.{Each}
 use Rattle.tp_choice.specs.declared.answer.RecoveryAnswer.{RecoveryAnswer}
+use Rattle.tp_quorum.specs.Choice.{present}
 use Rattle.tp_sheet.specs.SiteSheet.{SiteSheet, IsSiteOf}
 use Rattle.tp_sheet.specs.declared.sheet.Sheet.TheInside.{Inside}
 
@@ -14,16 +15,16 @@ view_of s = record {
   sheet = record {
     command = s.command;
     proposal = option_map (λ p. record { stamp = p.stamp; made = p.made }) s.proposal;
-    ballot = s.ballot;
-    accepted_ballot = s.accepted_ballot;
-    accepted_stamp = s.accepted_stamp;
+    ballot = s.acceptor.ballot;
+    accepted_ballot = s.acceptor.accepted_ballot;
+    accepted_stamp = s.acceptor.accepted_stamp.0;
     known = take s.topology.partitions s.known;
-    acknowledged = take s.topology.replicas s.acknowledged;
-    tried = s.tried;
+    acknowledged = take s.topology.replicas s.gathered;
+    tried = s.proposer.tried;
     answers = take s.topology.replicas s.answers;
-    putting_ballot = s.putting_ballot;
-    putting_stamp = s.putting_stamp;
-    votes = take s.topology.replicas s.votes;
+    putting_ballot = s.proposer.putting_ballot;
+    putting_stamp = s.proposer.putting_stamp.0;
+    votes = s.proposer.votes;
   };
 }
 
@@ -32,9 +33,12 @@ abbrev pub IsRanked : ℕ → Option RecoveryAnswer → Type 0
 IsRanked replicas None = Unit {0}
 IsRanked replicas (Some a) = (1 ≤ a.rank.0) × (a.rank.0 ≤ replicas)
 
--- the tables have room for each partition and each replica, the site is one of them, and so are the ranks that answered
+-- the tables have room for each partition and each replica, the site is one of them, and so are the ranks that proposed
+-- and answered, and the votes are those of this shape
 pub record IsSheet (s : Inside) : Type 0 where
   pub few_partitions : s.topology.partitions ≤ 4
   pub few_replicas : s.topology.replicas ≤ 7
   pub site : IsSiteOf s.topology s.site
+  pub gathered : present (drop s.topology.replicas s.gathered) ≡ []
   pub answers : Each (IsRanked s.topology.replicas) s.answers
+  pub proposer : s.proposer.shape ≡ s.topology

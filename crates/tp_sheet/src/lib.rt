@@ -1,10 +1,11 @@
 //! What a process keeps of one command, and what each piece of the rules changes of it.
 #![tactic(auto)]
 
-mod access;
+mod acknowledge;
 mod answers;
-mod gathered;
+mod learn;
+mod recover;
 mod sheet;
+mod vote;
 
-pub use access::accesses;
 pub use sheet::Sheet;
