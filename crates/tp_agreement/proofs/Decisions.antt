@@ -6,7 +6,7 @@ use Rattle.tp_quorum.specs.Choice.{present, greatest}
 use Rattle.tp_agreement.proofs.Attached.{IsMajorityAttached, acknowledged_is_attached, put_is_attached}
 use Rattle.tp_agreement.proofs.FastPath.{DecidedFast, fast_decision_fixes_all_ballots, fast_is_of_home}
 use Rattle.tp_agreement.proofs.Moment.{Moment, home, replicas, sheet}
-use Rattle.tp_agreement.proofs.SlowPath.{DecidedSlow, puts_at_ballot_agree, slow_decision_fixes_later_ballots}
+use Rattle.tp_agreement.proofs.SlowPath.{DecidedSlow, one_stamp_per_ballot, slow_decision_fixes_later_ballots}
 
 module _ (m : Moment) where
   -- the stamp was decided by the fast path, or by a slow quorum at a ballot
@@ -27,7 +27,7 @@ module _ (m : Moment) where
     | inl lower ↦ sym (slow_decision_fixes_later_ballots m a t b u y.rank x lower y.sent)
     | inr from ↦ elim (cases_lt b a) [
       | inl above ↦ slow_decision_fixes_later_ballots m b u a t x.rank y above x.sent
-      | inr to ↦ sym (puts_at_ballot_agree m x.rank y.rank t u a b (omega (arith, from, to)) x.sent y.sent)
+      | inr to ↦ sym (one_stamp_per_ballot m x.rank y.rank t u a b (omega (arith, from, to)) x.sent y.sent)
     ]
   ]
 

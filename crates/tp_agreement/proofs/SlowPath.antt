@@ -12,7 +12,7 @@ use Rattle.tp_rules.specs.Tables.{nth}
 use Rattle.tp_agreement.proofs.Sizes.{recovery_meets_slow}
 use Rattle.tp_topology.specs.Shape.{slow_size}
 use Rattle.tp_wire.specs.declared.message.Body.TheVariants.{MConsensusAck}
-use Rattle.tp_facts.proofs.RunFacts.{one_stamp_per_ballot}
+use Rattle.tp_facts.proofs.RunFacts.{one_put_per_ballot}
 use Rattle.tp_facts.proofs.Commands.{command_in_names}
 use Rattle.tp_facts.proofs.Tables.{meets, present_kept}
 use Rattle.tp_facts.proofs.Consequences.{no_vote_between}
@@ -41,9 +41,9 @@ module _ (m : Moment) where
       ]
 
   -- a ballot has one owner, who puts one stamp at it
-  pub puts_at_ballot_agree : (j k t u a b : ℕ) → a ≡ b → SentBy m j (put m t a) → SentBy m k (put m u b) → u ≡ t
-  puts_at_ballot_agree j k t u a b same x y =
-      one_stamp_per_ballot m.script (named m) m.accepted (command_in_names m.script m.accepted) m.journal m.history (process m j)
+  pub one_stamp_per_ballot : (j k t u a b : ℕ) → a ≡ b → SentBy m j (put m t a) → SentBy m k (put m u b) → u ≡ t
+  one_stamp_per_ballot j k t u a b same x y =
+      one_put_per_ballot m.script (named m) m.accepted (command_in_names m.script m.accepted) m.journal m.history (process m j)
       (process m k) x.message y.message (command m) (command m) (stamp t) (stamp u) a x.known y.known refl
       x.there y.there x.from y.from x.is (y.is ∙ ap (λ (c : ℕ). put m u c) (sym same)) refl
 
@@ -91,7 +91,7 @@ module _ (m : Moment) where
         elim (cases_lt a x.0.accepted) [
           | inl later ↦ later_up_to n a t u x.0.accepted old.0 (omega (arith, le, old.2)) decided later old.1
           | inr not_later ↦
-              puts_at_ballot_agree decided.rank old.0 t u a x.0.accepted
+              one_stamp_per_ballot decided.rank old.0 t u a x.0.accepted
               (omega (arith, x.2, not_later)) decided.sent old.1
         ]
   ]

@@ -57,7 +57,7 @@ module _ (s : Setting) (me : Site) (of : CommandId → Command) (here : IsHere s
     where
       go : (body : Body) (i : CommandId) → IsTrue s me of acts sent i (sheets i) body → IsOld id (sheets id) body
       go (MConsensusAck j n) i k =
-          λ same. subst (λ (x : CommandId). n ≤ (sheets x).accepted_ballot) (sym k.0 ∙ same) k.1
+          λ same. subst (λ (x : CommandId). n ≤ (sheets x).accepted_ballot) (sym k.0 ∙ same) k.2
       go (MConsensus c x n) i k =
           λ same. subst (λ (x : CommandId). n ≤ (sheets x).putting_ballot) (sym k.0 ∙ same) k.1.below
       go _ i k = tt

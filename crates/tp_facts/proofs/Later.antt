@@ -244,7 +244,7 @@ module _ (s : Setting) (me : Site) (of : CommandId → Command) (acts : List Act
         → IsTrue s me of (act ∷ acts) (out ++ sent) id new body
     stays_true (MPropose c t) h = (h.0, h.1, goes.proposal _ h.2)
     stays_true (MProposeAck i t) h = (h.0, goes.proposal _ h.1)
-    stays_true (MConsensusAck i b) h = (h.0, omega (arith, h.1, goes.accepted))
+    stays_true (MConsensusAck i b) h = (h.0, h.1, omega (arith, h.2, goes.accepted), (h.3.0, taken_more act h.3.1))
     stays_true (MRecAck i x made a b) h = (h.0, answer_stays x.0 made a b h.1)
     stays_true (MConsensus c t b) h = (h.0, put_stays t.0 b h.1)
     stays_true (MCommit c q t) h = (h.0, h.1, learned_more q.0 t.0 h.2)

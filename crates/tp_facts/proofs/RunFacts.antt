@@ -90,11 +90,11 @@ module _ (script : Script) (of : CommandId → Command) (accepted : IsAccepted s
   both_same j k p r = grind arith
 
   -- in one partition one stamp is put at a ballot
-  pub one_stamp_per_ballot : (j k : Site) (m n : Message) (c d : Command) (t u : Stamp) (b : ℕ)
+  pub one_put_per_ballot : (j k : Site) (m n : Message) (c d : Command) (t u : Stamp) (b : ℕ)
       → is_site_of script.topology j ≡ true → is_site_of script.topology k ≡ true
       → j.partition.0 ≡ k.partition.0 → IsSent older m → IsSent older n → m.from ≡ Process j → n.from ≡ Process k
       → m.body ≡ MConsensus c t b → n.body ≡ MConsensus d u b → c.id ≡ d.id → u.0 ≡ t.0
-  one_stamp_per_ballot j k m n c d t u b at_j at_k same_partition m_sent n_sent from_j from_k e f same =
+  one_put_per_ballot j k m n c d t u b at_j at_k same_partition m_sent n_sent from_j from_k e f same =
       let by_j = sent_by_process script older history j m m_sent from_j in
       let by_k = sent_by_process script older history k n n_sent from_k in
       let facts_k : FactsAt script of older k = run_holds k at_k in

@@ -11,7 +11,7 @@ use Rattle.tp_base.specs.declared.names.Made.TheVariants.{Proposal}
 use Rattle.tp_choice.specs.Choosing.{recovery_choice}
 use Rattle.tp_ops.specs.declared.command.Command.{Command}
 use Rattle.tp_quorum.specs.Choice.{present, greatest}
-use Rattle.tp_rules.proofs.SendsOfProcess.{bumps_send, commits_send, each_to, proposals_send, put_to_vote_sends}
+use Rattle.tp_rules.proofs.SendsOfProcess.{bumps_send, commits_send, each_to, proposals_send, put_to_vote_sends, stamp}
 use Rattle.tp_rules.specs.Acts.{Act, Took}
 use Rattle.tp_rules.specs.Addresses.{rank_of}
 use Rattle.tp_rules.specs.Process.{asked, bumps, commits, proposals, put_to_vote}
@@ -162,7 +162,26 @@ module _ (s : Setting) (me : Site) (of : CommandId → Command) (acts : List Act
         new_here = λ same. above;
       })
   sent_sound (accepts {m} c t b e none le) g h k goes before =
-      (record { true = (refl, omega arith); from = refl; new_here = λ same. le }, tt)
+      let both = carried of m _ e g in (
+        record {
+          true = (
+            refl,
+            omega (arith, both.1),
+            omega arith,
+            (
+              t,
+              record {
+                message = m;
+                there = inl refl;
+                is = e ∙ ap (λ (d : Command). MConsensus d (stamp t) b) both.0;
+              },
+            ),
+          );
+          from = refl;
+          new_here = λ same. le;
+        },
+        tt,
+      )
   sent_sound {act = act} {old = old} {new = new} {out = out}
       (decides_by_votes {m = m} {out = rest} id b e none some same enough last) g h k goes before =
       each_append (Sound act out id old new) (commits s.shape me old.command old.putting_stamp) rest
