@@ -1,3 +1,4 @@
+pub mod Commits
 pub mod FirstTold
 pub mod KeptFirst
 pub mod Lines
@@ -5,8 +6,7 @@ pub mod Looking
 pub mod Merged
 pub mod Numbered
 pub mod Placing
-pub mod Rows
-pub mod Commits
 pub mod Recording
 pub mod Records
 pub mod Reporting
+pub mod Rows

@@ -14,7 +14,8 @@ use Rattle.tp_ops.specs.declared.operation.Answer.{Answer}
 use Rattle.tp_script.specs.declared.script.Script.{Script}
 
 -- what is looked up, or what stands for it
-pub unwrap_copied : {X : Type 0} (o : Option (Bor X)) (d r : Bor X) (x : X) → r ≡ unwrap_or o d → d.now ≡ x → r.now ≡ unwrap_or (option_copied o) x
+pub unwrap_copied : {X : Type 0} (o : Option (Bor X)) (d r : Bor X) (x : X) → r ≡ unwrap_or o d → d.now ≡ x
+    → r.now ≡ unwrap_or (option_copied o) x
 unwrap_copied None d r x is e = ap (λ b. b.now) is ∙ e
 unwrap_copied (Some y) d r x is e = ap (λ b. b.now) is
 
@@ -31,18 +32,22 @@ pub id_is : (script : Script) (id : CommandId) (c : Command) → Some c ≡ comm
 id_is script id c e = same_id_is c.id id (found_passes (λ (k : Command). same_id k.id id) script.commands c (sym e))
 
 -- a place is counted where nothing is told of it
-pub counted_told : {X : Type 0} (o : Option X) (told : Bool) → told ≡ is_some o → cond {A = ℕ} told 0 1 ≡ cond {A = ℕ} (is_none o) 1 0
+pub counted_told : {X : Type 0} (o : Option X) (told : Bool) → told ≡ is_some o
+    → cond {A = ℕ} told 0 1 ≡ cond {A = ℕ} (is_none o) 1 0
 counted_told None told e = ap (λ (b : Bool). cond {A = ℕ} b 0 1) e
 counted_told (Some x) told e = ap (λ (b : Bool). cond {A = ℕ} b 0 1) e
 
 -- a row of the table of a script's commands
-pub row_is : (script : Script) (rows : List Row) (i : ℕ) (row : Row) → AreNumbered (length script.homes) script.commands script.commands rows
+pub row_is : (script : Script) (rows : List Row) (i : ℕ) (row : Row)
+    → AreNumbered (length script.homes) script.commands script.commands rows
     → slice_get rows i ≡ Some row → IsRow script (suc i) row
-row_is script rows i row h at = record { numbers = h.numbers i row at; commands = λ j o here. h.commands i j row o at here }
+row_is script rows i row h at =
+    record { numbers = h.numbers i row at; commands = λ j o here. h.commands i j row o at here }
 
 -- the reply of a place is that of its identifier
 pub reply_at : (script : Script) (older : List Entry) (id : CommandId) (c : Command) → Some c ≡ command_of script id
-    → (P : CommandId → Option (List Answer) → Type 0) → P c.id (reply_from script (first_result older c.id) (Some c)) → P id (reply_to script older id)
+    → (P : CommandId → Option (List Answer) → Type 0) → P c.id (reply_from script (first_result older c.id) (Some c))
+    → P id (reply_to script older id)
 reply_at script older id c is P h =
     subst (λ (o : Option Command). P id (reply_from script (first_result older id) o)) is
     (subst (λ (k : CommandId). P k (reply_from script (first_result older k) (Some c))) (id_is script id c is) h)

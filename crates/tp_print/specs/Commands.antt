@@ -18,7 +18,8 @@ Row = List (Option Command)
 abbrev pub first_with : List Command → CommandId → Option Command
 first_with commands id = find (λ c. same_id c.id id) commands
 
--- rows of so many sessions: a place for each of the counted commands, and at it the first of the placed ones with its number
+-- rows of so many sessions: a place for each of the counted commands,
+-- and at it the first of the placed ones with its number
 pub record AreNumbered (sessions : ℕ) (counted placed : List Command) (rows : List Row) : Type 0 where
   pub count : length rows ≡ sessions
   pub numbers : (i : ℕ) (row : Row) → slice_get rows i ≡ Some row → length row ≡ length (commands_by (suc i) counted)

@@ -1,4 +1,5 @@
 -- What is kept of a site, beside what its journal says.
+use Rattle.std.specs.Option.{option_or}
 use Rattle.std.specs.Prelude.{◌≡◌, ℕ, cond, List, [], ◌∷◌, Option, Some, None, filter, filter_map, map, unwrap_or}
 use Rattle.indexmap.specs.IndexMap.{IndexMap, get}
 use Rattle.tp_base.specs.Names.{same_id, same_site}
@@ -17,10 +18,6 @@ abbrev pub first_stamp : List Commit → CommandId → Option ℕ
 first_stamp [] id = None
 first_stamp (c ∷ cs) id = cond (same_id c.id id) (Some c.stamp) (first_stamp cs id)
 
-abbrev pub or_else : Option ℕ → Option ℕ → Option ℕ
-or_else (Some n) o = Some n
-or_else None o = o
-
 -- the commits that a site's process sends
 abbrev pub commits_sent : Site → List Message → List Commit
 commits_sent s outputs = filter_map (λ m. commit_by (Process s) m.body) outputs
@@ -30,7 +27,8 @@ commits_at older s = filter (λ c. same_site c.site s) (commits older)
 
 -- the stamps are those before, then the first of the commits, whatever the site
 abbrev pub AreMore : {S : Type 0} → IndexMap CommandId ℕ S → (Site → List Commit) → IndexMap CommandId ℕ S → Type 0
-AreMore old more new = (s : Site) (id : CommandId) → get same_id new id ≡ or_else (get same_id old id) (first_stamp (more s) id)
+AreMore old more new = (s : Site) (id : CommandId)
+    → get same_id new id ≡ option_or (get same_id old id) (first_stamp (more s) id)
 
 -- the record is that of a journal, the newest entry first
 pub record IsRecorded (older : List Entry) (s : Site) (r : SiteRecord) : Type 0 where

@@ -27,7 +27,7 @@ impl<'a> Model for SessionCommands<'a> {
 
 impl<'a> SessionCommands<'a> {
     /// Without numbers. It takes no memory.
-    pub fn new(alloc: Global) -> Self
+    fn new(alloc: Global) -> Self
         ensures { result ≡ [] }
     {
         SessionCommands {
@@ -36,7 +36,7 @@ impl<'a> SessionCommands<'a> {
     }
 
     /// Makes a place for one number more.
-    pub fn extend(&mut self) -> Result<(), NoMemory>
+    fn add_place(&mut self) -> Result<(), NoMemory>
         ensures { OnOk result (self.new ≡ self.old ++ None ∷ []) }
     {
         self.commands.push(None)?;
@@ -44,9 +44,11 @@ impl<'a> SessionCommands<'a> {
     }
 
     /// Puts a command at its number, where there is that number and no command has it.
-    pub fn put(&mut self, command: &'a Command)
+    fn put(&mut self, command: &'a Command)
         ensures count { length self.new ≡ length self.old }
-        ensures places { (i : ℕ) → slice_get self.new i ≡ option_map (λ before. option_or before (cond (command.now.id.number == suc i) (Some command.now) None)) (slice_get self.old i) }
+        ensures places { (i : ℕ) → slice_get self.new i ≡ option_map
+            (λ before. option_or before (cond (command.now.id.number == suc i) (Some command.now) None))
+            (slice_get self.old i) }
     {
         if command.id.number == 0 {
             return;
@@ -88,8 +90,9 @@ fn no_commands<'a>(alloc: Global, sessions: usize) -> Result<Vec<SessionCommands
 }
 
 /// Makes a place for a command at its session, where there is that session.
-fn count(table: &mut Vec<SessionCommands>, command: &Command) -> Result<(), NoMemory>
-    ensures { OnOk result ((sessions : ℕ) (counted : List Command) → AreNumbered sessions counted [] table.old.items → AreNumbered sessions (counted ++ command.now ∷ []) [] table.new.items) }
+fn make_place(table: &mut Vec<SessionCommands>, command: &Command) -> Result<(), NoMemory>
+    ensures { OnOk result ((sessions : ℕ) (counted : List Command) → AreNumbered sessions counted [] table.old.items
+        → AreNumbered sessions (counted ++ command.now ∷ []) [] table.new.items) }
 {
     let session = usize::from(command.id.session.0);
     if session == 0 {
@@ -98,13 +101,15 @@ fn count(table: &mut Vec<SessionCommands>, command: &Command) -> Result<(), NoMe
     if table.len() < session {
         return Ok(());
     }
-    table[session - 1].extend()?;
+    table[session - 1].add_place()?;
     Ok(())
 }
 
 /// Puts a command at its session and number, where there is that place and it is empty.
-fn place<'a>(table: &mut Vec<SessionCommands<'a>>, command: &'a Command)
-    ensures { (sessions : ℕ) (counted : List Command) (placed : List Command) → AreNumbered sessions counted placed table.old.items → AreNumbered sessions counted (placed ++ command.now ∷ []) table.new.items }
+fn put_command<'a>(table: &mut Vec<SessionCommands<'a>>, command: &'a Command)
+    ensures { (sessions : ℕ) (counted : List Command) (placed : List Command)
+        → AreNumbered sessions counted placed table.old.items
+        → AreNumbered sessions counted (placed ++ command.now ∷ []) table.new.items }
 {
     let session = usize::from(command.id.session.0);
     if session == 0 {
@@ -117,12 +122,12 @@ fn place<'a>(table: &mut Vec<SessionCommands<'a>>, command: &'a Command)
 }
 
 /// A place for each command of a script, by session and number.
-fn places<'a>(alloc: Global, script: &Script) -> Result<Vec<SessionCommands<'a>>, NoMemory>
+fn empty_places<'a>(alloc: Global, script: &Script) -> Result<Vec<SessionCommands<'a>>, NoMemory>
     ensures { IfOk result (λ table. AreNumbered (length script.now.homes) script.now.commands [] table.items) }
 {
     let mut table = no_commands(alloc, script.homes.len())?;
     for command in script.commands.as_slice() {
-        count(&mut table, command)?;
+        make_place(&mut table, command)?;
     }
     Ok(table)
 }
@@ -132,11 +137,12 @@ pub fn commands_by_session<'a>(
     alloc: Global,
     script: &'a Script,
 ) -> Result<Vec<SessionCommands<'a>>, NoMemory>
-    ensures { IfOk result (λ table. AreNumbered (length script.now.homes) script.now.commands script.now.commands table.items) }
+    ensures { IfOk result (λ table. AreNumbered (length script.now.homes) script.now.commands script.now.commands
+        table.items) }
 {
-    let mut table = places(alloc, script)?;
+    let mut table = empty_places(alloc, script)?;
     for command in script.commands.as_slice() {
-        place(&mut table, command);
+        put_command(&mut table, command);
     }
     Ok(table)
 }

@@ -37,7 +37,8 @@ impl<'a> FirstResults<'a> {
     pub fn put(&mut self, p: PartitionId, answers: &'a Answers)
         requires from { 1 ≤ p.0 }
         requires to { p.0 ≤ 4 }
-        ensures { (q : ℕ) → kept_in self.new q ≡ option_or (kept_in self.old q) (cond (p.0 == q) (Some answers.now) None) }
+        ensures { (q : ℕ) → kept_in self.new q ≡ option_or (kept_in self.old q)
+            (cond (p.0 == q) (Some answers.now) None) }
     {
         let place = usize::from(p.0) - 1;
         let kept = &mut self.answers[..];

@@ -33,7 +33,8 @@ fn put_crashed(out: &mut Put, crashed: bool) -> Result<(), NoMemory>
 }
 
 fn put_record(out: &mut Put, site: Site, noted: &SiteRecord) -> Result<(), NoMemory>
-    ensures { OnOk result (out.new ≡ out.old ++ text_line (codes "order") (site_word site ∷ recorded_words noted.now ++ crashed_words noted.now.crashed)) }
+    ensures { OnOk result (out.new ≡ out.old ++ text_line (codes "order")
+        (site_word site ∷ recorded_words noted.now ++ crashed_words noted.now.crashed)) }
 {
     out.bytes(b"order")?;
     put_site(out, site)?;
@@ -44,7 +45,8 @@ fn put_record(out: &mut Put, site: Site, noted: &SiteRecord) -> Result<(), NoMem
 
 /// The line of one site.
 fn put_order(alloc: Global, out: &mut Put, sites: &Sites, site: Site) -> Result<(), NoMemory>
-    ensures { OnOk result ((older : List Entry) → AreRecorded older sites.now → out.new ≡ out.old ++ order_line older site) }
+    ensures { OnOk result ((older : List Entry) → AreRecorded older sites.now
+        → out.new ≡ out.old ++ order_line older site) }
 {
     let none = SiteRecord::new(alloc);
     let noted = sites.get(&site).unwrap_or(&none);
@@ -60,7 +62,8 @@ fn put_partition(
     sites: &Sites,
     partition: PartitionId,
 ) -> Result<(), NoMemory>
-    ensures { OnOk result ((older : List Entry) → AreRecorded older sites.now → out.new ≡ out.old ++ flat_map (λ k. order_line older (site partition.0 k)) (up_to topology.now.replicas)) }
+    ensures { OnOk result ((older : List Entry) → AreRecorded older sites.now
+        → out.new ≡ out.old ++ flat_map (λ k. order_line older (site partition.0 k)) (up_to topology.now.replicas)) }
 {
     for i in 0..topology.replicas() {
         let site = Site {
@@ -79,7 +82,10 @@ pub fn put_orders(
     topology: &Topology,
     sites: &Sites,
 ) -> Result<(), NoMemory>
-    ensures { OnOk result ((older : List Entry) → AreRecorded older sites.now → out.new ≡ out.old ++ flat_map (λ p. flat_map (λ k. order_line older (site p k)) (up_to topology.now.replicas)) (up_to topology.now.partitions)) }
+    ensures { OnOk result ((older : List Entry) → AreRecorded older sites.now
+        → out.new ≡ out.old ++ flat_map
+        (λ p. flat_map (λ k. order_line older (site p k)) (up_to topology.now.replicas))
+        (up_to topology.now.partitions)) }
 {
     for i in 0..topology.partitions() {
         put_partition(alloc, out, topology, sites, PartitionId(i + 1))?;

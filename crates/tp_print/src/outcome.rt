@@ -42,7 +42,8 @@ impl<'a> Outcome<'a> {
 
     /// Goes on with the next entry. The entries before it are given.
     fn note(&mut self, alloc: Global, before: &'a [Entry], entry: &Entry) -> Result<(), NoMemory>
-        ensures { OnOk result (IsOutcome (reverse before.now) self.old → IsOutcome (entry.now ∷ reverse before.now) self.new) }
+        ensures { OnOk result (IsOutcome (reverse before.now) self.old
+            → IsOutcome (entry.now ∷ reverse before.now) self.new) }
     {
         note_site(alloc, &mut self.sites, entry)?;
         note_execution(&mut self.line, entry.event)?;

@@ -25,8 +25,11 @@ fn put_place(
     results: &Results,
     command: Option<&Command>,
 ) -> Result<bool, NoMemory>
-    ensures line { OnOk result ((older : List Entry) (id : CommandId) → AreFirst older results.now → option_copied command.entry ≡ command_of script.now id → out.new ≡ out.old ++ reply_line id (reply_to script.now older id)) }
-    ensures told { IfOk result (λ told. (older : List Entry) (id : CommandId) → AreFirst older results.now → option_copied command.entry ≡ command_of script.now id → told ≡ is_some (reply_to script.now older id)) }
+    ensures line { OnOk result ((older : List Entry) (id : CommandId) → AreFirst older results.now
+        → option_copied command.entry ≡ command_of script.now id
+        → out.new ≡ out.old ++ reply_line id (reply_to script.now older id)) }
+    ensures told { IfOk result (λ told. (older : List Entry) (id : CommandId) → AreFirst older results.now
+        → option_copied command.entry ≡ command_of script.now id → told ≡ is_some (reply_to script.now older id)) }
 {
     let Some(command) = command else {
         return Ok(false);
@@ -45,8 +48,10 @@ fn put_session(
     results: &Results,
     commands: &SessionCommands,
 ) -> Result<usize, NoMemory>
-    ensures lines { OnOk result ((older : List Entry) (s : ℕ) → AreFirst older results.now → IsRow script.now s commands.now → out.new ≡ out.old ++ lines_of script.now older s) }
-    ensures unanswered { IfOk result (λ unanswered. (older : List Entry) (s : ℕ) → AreFirst older results.now → IsRow script.now s commands.now → unanswered ≡ length (open_of script.now older s)) }
+    ensures lines { OnOk result ((older : List Entry) (s : ℕ) → AreFirst older results.now
+        → IsRow script.now s commands.now → out.new ≡ out.old ++ lines_of script.now older s) }
+    ensures unanswered { IfOk result (λ unanswered. (older : List Entry) (s : ℕ) → AreFirst older results.now
+        → IsRow script.now s commands.now → unanswered ≡ length (open_of script.now older s)) }
     ensures few { IfOk result (λ unanswered. unanswered ≤ length commands.now) }
 {
     let mut unanswered = 0usize;
@@ -68,8 +73,10 @@ pub fn put_replies(
     table: &[SessionCommands],
 ) -> Result<usize, NoMemory>
     requires { AreNumbered (length script.now.homes) script.now.commands script.now.commands table.now }
-    ensures lines { OnOk result ((older : List Entry) → AreFirst older results.now → out.new ≡ out.old ++ reply_lines script.now older) }
-    ensures unanswered { IfOk result (λ unanswered. (older : List Entry) → AreFirst older results.now → unanswered ≡ open_count script.now older) }
+    ensures lines { OnOk result ((older : List Entry) → AreFirst older results.now
+        → out.new ≡ out.old ++ reply_lines script.now older) }
+    ensures unanswered { IfOk result (λ unanswered. (older : List Entry) → AreFirst older results.now
+        → unanswered ≡ open_count script.now older) }
 {
     // No more commands are open than there are, so the count fits.
     let _most = script.commands.len();

@@ -52,7 +52,8 @@ fn put_merged(
 ) -> Result<(), NoMemory>
     requires some { 1 ≤ partitions }
     requires few { partitions ≤ 4 }
-    ensures { OnOk result (out.new ≡ out.old ++ flat_map spaced (map answer_word (merged partitions command.now.ops (answers_in first.now)))) }
+    ensures { OnOk result (out.new ≡ out.old ++ flat_map spaced
+        (map answer_word (merged partitions command.now.ops (answers_in first.now)))) }
 {
     let mut taken = [0usize; 4];
     for op in command.ops.as_slice() {
@@ -76,7 +77,8 @@ fn put_whole(
 ) -> Result<(), NoMemory>
     requires some { 1 ≤ partitions }
     requires few { partitions ≤ 4 }
-    ensures { OnOk result (out.new ≡ out.old ++ reply_line command.now.id (Some (merged partitions command.now.ops (answers_in first.now)))) }
+    ensures { OnOk result (out.new ≡ out.old ++ reply_line command.now.id
+        (Some (merged partitions command.now.ops (answers_in first.now)))) }
 {
     out.bytes(b"reply")?;
     put_id(out, command.id)?;
@@ -92,8 +94,10 @@ pub fn put_reply(
     command: &Command,
     first: &FirstResults,
 ) -> Result<bool, NoMemory>
-    ensures line { OnOk result ((parts : ℕ → Option (List Answer)) → AreKept first.now parts → out.new ≡ out.old ++ reply_line command.now.id (reply_from script.now parts (Some command.now))) }
-    ensures told { IfOk result (λ told. (parts : ℕ → Option (List Answer)) → AreKept first.now parts → told ≡ is_some (reply_from script.now parts (Some command.now))) }
+    ensures line { OnOk result ((parts : ℕ → Option (List Answer)) → AreKept first.now parts
+        → out.new ≡ out.old ++ reply_line command.now.id (reply_from script.now parts (Some command.now))) }
+    ensures told { IfOk result (λ told. (parts : ℕ → Option (List Answer)) → AreKept first.now parts
+        → told ≡ is_some (reply_from script.now parts (Some command.now))) }
 {
     let partitions = script.topology.partitions();
     if !is_whole(&script.topology, command, first) {

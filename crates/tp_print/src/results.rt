@@ -23,7 +23,8 @@ pub type Results<'a> = IndexMap<CommandId, FirstResults<'a>>;
 /// Makes a place for a command, where it has none.
 fn open(results: &mut Results, id: CommandId) -> Result<(), NoMemory>
     ensures here { OnOk result (is_some (get same_id results.new id) ≡ true) }
-    ensures same { OnOk result ((other : CommandId) (p : ℕ) → answers_at results.new other p ≡ answers_at results.old other p) }
+    ensures same { OnOk result ((other : CommandId) (p : ℕ)
+        → answers_at results.new other p ≡ answers_at results.old other p) }
 {
     if !results.contains_key(&id) {
         results.insert(id, FirstResults::new())?;
@@ -40,8 +41,11 @@ fn keep<'a>(
 ) -> Result<(), NoMemory>
     requires from { 1 ≤ p.0 }
     requires to { p.0 ≤ 4 }
-    ensures here { OnOk result ((q : ℕ) → answers_at results.new id q ≡ option_or (answers_at results.old id q) (cond (p.0 == q) (Some answers.now) None)) }
-    ensures others { OnOk result ((other : CommandId) (q : ℕ) → same_id id other ≡ false → answers_at results.new other q ≡ answers_at results.old other q) }
+    ensures here { OnOk result ((q : ℕ)
+        → answers_at results.new id q ≡ option_or (answers_at results.old id q)
+        (cond (p.0 == q) (Some answers.now) None)) }
+    ensures others { OnOk result ((other : CommandId) (q : ℕ) → same_id id other ≡ false
+        → answers_at results.new other q ≡ answers_at results.old other q) }
 {
     open(results, id)?;
     if let Some(kept) = results.get_mut(&id) {
@@ -50,12 +54,15 @@ fn keep<'a>(
     Ok(())
 }
 
+/// Notes the answers that a message tells an actor, where they are for a command of its own.
 fn note_result<'a>(
     results: &mut Results<'a>,
     actor: ActorName,
     message: &'a Message,
 ) -> Result<(), NoMemory>
-    ensures { OnOk result ((id : CommandId) (p : ℕ) → 1 ≤ p → p ≤ 4 → answers_at results.new id p ≡ cond (same_name actor (Session id.session)) (option_or (answers_at results.old id p) (result_by id p message.now.body)) (answers_at results.old id p)) }
+    ensures { OnOk result ((id : CommandId) (p : ℕ) → 1 ≤ p → p ≤ 4
+        → answers_at results.new id p ≡ cond (same_name actor (Session id.session))
+        (option_or (answers_at results.old id p) (result_by id p message.now.body)) (answers_at results.old id p)) }
 {
     match &message.body {
         Body::MResult {
@@ -79,7 +86,8 @@ pub fn note_delivery<'a>(
     before: &'a [Entry],
     entry: &Entry,
 ) -> Result<(), NoMemory>
-    ensures { OnOk result (AreFirst (reverse before.now) results.old → AreFirst (entry.now ∷ reverse before.now) results.new) }
+    ensures { OnOk result (AreFirst (reverse before.now) results.old
+        → AreFirst (entry.now ∷ reverse before.now) results.new) }
 {
     match entry.event {
         Event::Deliver { entry: from, place } => match output(before, from, place) {

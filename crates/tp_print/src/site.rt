@@ -1,9 +1,10 @@
+ghost use Rattle.std.specs.Option.{option_or};
 ghost use Rattle.std.specs.Prelude.{◌≡◌, [], ◌∷◌, ◌||◌, cond, List, Some, None, OnOk};
 ghost use Rattle.indexmap.specs.IndexMap.{get};
 ghost use Rattle.tp_base.specs.Names.{same_id};
 ghost use Rattle.tp_base.specs.declared.names.CommandId.{CommandId};
 ghost use Rattle.tp_base.specs.declared.names.Site.{Site};
-ghost use Rattle.tp_print.specs.Recorded.{AreMore, IsRecorded, commits_sent, or_else};
+ghost use Rattle.tp_print.specs.Recorded.{AreMore, IsRecorded, commits_sent};
 ghost use Rattle.tp_rules.specs.Journal.{is_crash};
 ghost use Rattle.tp_rules.specs.Outcome.{at_end, executed_by};
 ghost use Rattle.tp_rules.specs.declared.event.Entry.{Entry};
@@ -29,7 +30,8 @@ fn note_commit(
     id: CommandId,
     stamp: u64,
 ) -> Result<(), NoMemory>
-    ensures { OnOk result ((q : CommandId) → get same_id stamps.new q ≡ or_else (get same_id stamps.old q) (cond (same_id id q) (Some stamp) None)) }
+    ensures { OnOk result ((q : CommandId)
+        → get same_id stamps.new q ≡ option_or (get same_id stamps.old q) (cond (same_id id q) (Some stamp) None)) }
 {
     if !stamps.contains_key(&id) {
         stamps.insert(id, stamp)?;
@@ -79,7 +81,8 @@ impl SiteRecord {
     }
 
     fn note_executor(&mut self, entry: &Entry) -> Result<(), NoMemory>
-        ensures executed { OnOk result (self.new.executed.items ≡ at_end self.old.executed.items (executed_by entry.now.event)) }
+        ensures executed { OnOk result
+            (self.new.executed.items ≡ at_end self.old.executed.items (executed_by entry.now.event)) }
         ensures stamps { OnOk result (self.new.stamps ≡ self.old.stamps) }
         ensures crashed { OnOk result (self.new.crashed ≡ self.old.crashed) }
     {
@@ -91,7 +94,8 @@ impl SiteRecord {
 
     /// Goes on with the next entry.
     pub fn note(&mut self, site: Site, entry: &Entry) -> Result<(), NoMemory>
-        ensures { OnOk result ((older : List Entry) → IsRecorded older site self.old → IsRecorded (entry.now ∷ older) site self.new) }
+        ensures { OnOk result ((older : List Entry) → IsRecorded older site self.old
+            → IsRecorded (entry.now ∷ older) site self.new) }
     {
         if is_process(entry.actor, site) {
             self.note_process(entry)?;

@@ -17,7 +17,8 @@ pub type Sites = IndexMap<Site, SiteRecord>;
 /// Makes a record of a site, where it has none.
 fn open(alloc: Global, sites: &mut Sites, site: Site) -> Result<(), NoMemory>
     ensures here { OnOk result (is_some (get same_site sites.new site) ≡ true) }
-    ensures others { OnOk result ((other : Site) → same_site site other ≡ false → get same_site sites.new other ≡ get same_site sites.old other) }
+    ensures others { OnOk result ((other : Site) → same_site site other ≡ false
+        → get same_site sites.new other ≡ get same_site sites.old other) }
     ensures recorded { OnOk result ((older : List Entry) → AreRecorded older sites.old → AreRecorded older sites.new) }
 {
     if !sites.contains_key(&site) {
@@ -27,14 +28,11 @@ fn open(alloc: Global, sites: &mut Sites, site: Site) -> Result<(), NoMemory>
 }
 
 /// Goes on with an entry in the record of a site.
-fn note_at(
-    alloc: Global,
-    sites: &mut Sites,
-    site: Site,
-    entry: &Entry,
-) -> Result<(), NoMemory>
-    ensures here { OnOk result ((older : List Entry) → AreRecorded older sites.old → IsKept (entry.now ∷ older) site (get same_site sites.new site)) }
-    ensures others { OnOk result ((other : Site) → same_site site other ≡ false → get same_site sites.new other ≡ get same_site sites.old other) }
+fn note_at(alloc: Global, sites: &mut Sites, site: Site, entry: &Entry) -> Result<(), NoMemory>
+    ensures here { OnOk result ((older : List Entry) → AreRecorded older sites.old
+        → IsKept (entry.now ∷ older) site (get same_site sites.new site)) }
+    ensures others { OnOk result ((other : Site) → same_site site other ≡ false
+        → get same_site sites.new other ≡ get same_site sites.old other) }
 {
     open(alloc, sites, site)?;
     if let Some(record) = sites.get_mut(&site) {
@@ -45,7 +43,8 @@ fn note_at(
 
 /// Goes on with the next entry.
 pub fn note_site(alloc: Global, sites: &mut Sites, entry: &Entry) -> Result<(), NoMemory>
-    ensures { OnOk result ((older : List Entry) → AreRecorded older sites.old → AreRecorded (entry.now ∷ older) sites.new) }
+    ensures { OnOk result ((older : List Entry) → AreRecorded older sites.old
+        → AreRecorded (entry.now ∷ older) sites.new) }
 {
     match entry.actor {
         ActorName::Process(site) | ActorName::Executor(site) => {

@@ -6,6 +6,9 @@ use Rattle.tp_print.proofs.commands.commands_by_session.Goals as goal
 
 pub loop-command-preserved : goal.loop-command-preserved
 loop-command-preserved c =
-    take_next (λ (placed : List Command). AreNumbered (length c.args.script.now.homes) c.args.script.now.commands placed c.place.new.table.items)
-    c.as_slice-command-items.result.now c.loop-command.command-index c.command-item.result c.loop-command-test.true c.command-item.is
-    (c.place.ensures (length c.args.script.now.homes) c.args.script.now.commands (take c.loop-command.command-index c.as_slice-command-items.result.now) c.loop-command.invariant)
+    take_next (λ (placed : List Command). AreNumbered (length c.args.script.now.homes) c.args.script.now.commands
+    placed c.put_command.new.table.items)
+    c.as_slice-command-items.result.now c.loop-command.command-index c.command-item.result c.loop-command-test.true
+    c.command-item.is
+    (c.put_command.ensures (length c.args.script.now.homes) c.args.script.now.commands
+    (take c.loop-command.command-index c.as_slice-command-items.result.now) c.loop-command.invariant)

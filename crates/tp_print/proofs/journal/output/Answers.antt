@@ -7,17 +7,20 @@ use Rattle.tp_print.proofs.journal.output.Goals as goal
 
 pub returns-then-entry-eq0 : goal.returns-then-entry-eq0
 returns-then-entry-eq0 c =
-    sym (ap (λ (n : ℕ). output_at (reverse c.args.journal.now) n c.args.place) c.if-entry-eq0.true ∙ output_at_zero (reverse c.args.journal.now) c.args.place)
+    sym (ap (λ (n : ℕ). output_at (reverse c.args.journal.now) n c.args.place) c.if-entry-eq0.true
+    ∙ output_at_zero (reverse c.args.journal.now) c.args.place)
 
 pub returns-then-place-eq0 : goal.returns-then-place-eq0
 returns-then-place-eq0 c =
-    sym (ap (λ (n : ℕ). output_at (reverse c.args.journal.now) c.args.entry n) c.if-place-eq0.true ∙ output_at_no_place (reverse c.args.journal.now) c.args.entry)
+    sym (ap (λ (n : ℕ). output_at (reverse c.args.journal.now) c.args.entry n) c.if-place-eq0.true
+    ∙ output_at_no_place (reverse c.args.journal.now) c.args.entry)
 
 pub returns-in-Some : goal.returns-in-Some
 returns-in-Some c =
     let low : 1 ≤ c.args.entry = omega arith in
     let from : 1 ≤ c.args.place = omega arith in
-    output_found c.args.journal.now c.args.entry c.args.place c.in-Some.found.now (option_copied c.get.result) low from c.in-Some.ensures c.get.ensures.item
+    output_found c.args.journal.now c.args.entry c.args.place c.in-Some.found.now (option_copied c.get.result) low from
+    c.in-Some.ensures c.get.ensures.item
 
 pub returns-in-None : goal.returns-in-None
 returns-in-None c =

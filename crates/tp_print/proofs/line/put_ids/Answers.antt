@@ -5,5 +5,6 @@ use Rattle.tp_print.proofs.line.put_ids.Goals as goal
 
 pub returns : goal.returns
 returns c =
-    text_whole (λ id. spaced (id_word id)) c.args.out.now c.loop-id.out c.args.ids.now c.loop-id.id-index c.loop-id-test.false c.loop-id.invariant
+    text_whole (λ id. spaced (id_word id)) c.args.out.now c.loop-id.out c.args.ids.now c.loop-id.id-index
+    c.loop-id-test.false c.loop-id.invariant
     ∙ words_of id_word c.args.out.now c.args.ids.now

@@ -8,7 +8,8 @@ use Rattle.tp_print.proofs.orders.put_order.Goals as goal
 pub returns : goal.returns
 returns c = λ older h.
     let noted = unwrap_copied c.get.result _ c.unwrap_or-noted.result c.new-none.result c.unwrap_or-noted.ensures refl
-        ∙ ap (λ (o : Option SiteRecord). unwrap_or o c.new-none.result) c.get.ensures.value in
+    ∙ ap (λ (o : Option SiteRecord). unwrap_or o c.new-none.result) c.get.ensures.value in
     c.in_ok-put_record.ensures
     ∙ ap (λ (text : List ℕ). c.args.out.now ++ text) (order_line_is older c.args.site c.unwrap_or-noted.result.now
-        (kept_or_new older c.args.site _ c.new-none.result c.unwrap_or-noted.result.now noted c.new-none.ensures (h c.args.site)))
+    (kept_or_new older c.args.site _ c.new-none.result c.unwrap_or-noted.result.now noted c.new-none.ensures
+    (h c.args.site)))

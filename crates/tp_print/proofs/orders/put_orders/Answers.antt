@@ -9,7 +9,8 @@ use Rattle.tp_print.proofs.orders.put_orders.Goals as goal
 pub loop-i-preserved : goal.loop-i-preserved
 loop-i-preserved c = λ older h.
     count_more (λ p. flat_map (λ k. order_line older (site p k)) (up_to c.args.topology.now.replicas))
-    c.args.out.now c.loop-i.out c.put_partition.new.out c.loop-i.i (c.loop-i.invariant older h) (c.in_ok-put_partition.ensures older h)
+    c.args.out.now c.loop-i.out c.put_partition.new.out c.loop-i.i (c.loop-i.invariant older h)
+    (c.in_ok-put_partition.ensures older h)
 
 pub returns : goal.returns
 returns c = λ older h.

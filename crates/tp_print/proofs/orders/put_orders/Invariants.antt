@@ -8,4 +8,6 @@ use Rattle.tp_topology.specs.Counting.{up_to}
 use Rattle.tp_print.proofs.orders.put_orders.Given as goal
 
 abbrev pub invariant-loop-i : goal.invariant-loop-i
-invariant-loop-i l = (older : List Entry) → AreRecorded older l.sites → l.out ≡ l.initial.out ++ flat_map (λ p. flat_map (λ k. order_line older (site p k)) (up_to l.topology.replicas)) (up_to l.i)
+invariant-loop-i l = (older : List Entry) → AreRecorded older l.sites
+    → l.out ≡ l.initial.out ++ flat_map (λ p. flat_map (λ k. order_line older (site p k)) (up_to l.topology.replicas))
+    (up_to l.i)

@@ -8,4 +8,5 @@ use Rattle.tp_topology.specs.Counting.{up_to}
 use Rattle.tp_print.proofs.orders.put_partition.Given as goal
 
 abbrev pub invariant-loop-i : goal.invariant-loop-i
-invariant-loop-i l = (older : List Entry) → AreRecorded older l.sites → l.out ≡ l.initial.out ++ flat_map (λ k. order_line older (site l.partition.0 k)) (up_to l.i)
+invariant-loop-i l = (older : List Entry) → AreRecorded older l.sites
+    → l.out ≡ l.initial.out ++ flat_map (λ k. order_line older (site l.partition.0 k)) (up_to l.i)

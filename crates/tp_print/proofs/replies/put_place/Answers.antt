@@ -21,10 +21,12 @@ kept c older first = λ p low high.
 
 pub returns : goal.returns
 returns c = record {
-  line = λ older id first is. reply_at c.args.script.now older id c.in-Some.command.now (sym (ap option_copied c.in-Some.is) ∙ is)
+  line = λ older id first is. reply_at c.args.script.now older id c.in-Some.command.now
+      (sym (ap option_copied c.in-Some.is) ∙ is)
       (λ (k : CommandId) (r : Option (List Answer)). c.put_reply.new.out ≡ c.args.out.now ++ reply_line k r)
       (c.in_ok-told.ensures.line (first_result older c.in-Some.command.now.id) (kept c older first));
-  told = λ older id first is. reply_at c.args.script.now older id c.in-Some.command.now (sym (ap option_copied c.in-Some.is) ∙ is)
+  told = λ older id first is. reply_at c.args.script.now older id c.in-Some.command.now
+      (sym (ap option_copied c.in-Some.is) ∙ is)
       (λ (k : CommandId) (r : Option (List Answer)). c.in_ok-told.told ≡ is_some r)
       (c.in_ok-told.ensures.told (first_result older c.in-Some.command.now.id) (kept c older first));
 }

@@ -9,7 +9,9 @@ use Rattle.tp_print.proofs.replies.put_replies.Given as goal
 
 abbrev pub invariant-loop-i : goal.invariant-loop-i
 invariant-loop-i l = record {
-  lines : (older : List Entry) → AreFirst older l.results → l.out ≡ l.initial.out ++ flat_map (lines_of l.script older) (up_to l.i);
-  unanswered : (older : List Entry) → AreFirst older l.results → l.unanswered ≡ length (flat_map (open_of l.script older) (up_to l.i));
+  lines : (older : List Entry) → AreFirst older l.results
+      → l.out ≡ l.initial.out ++ flat_map (lines_of l.script older) (up_to l.i);
+  unanswered : (older : List Entry) → AreFirst older l.results
+      → l.unanswered ≡ length (flat_map (open_of l.script older) (up_to l.i));
   few : l.unanswered ≤ length (flat_map (of_session l.script.commands) (up_to l.i));
 }

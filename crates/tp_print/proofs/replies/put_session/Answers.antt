@@ -25,15 +25,20 @@ loop-i-preserved c =
     let next : i + 1 ≡ suc i = omega arith in
     record {
       lines = λ older s first row.
-          count_more (line_of script older s) c.args.out.now c.loop-i.out c.put_place.new.out i (c.loop-i.invariant.lines older s first row)
-          (c.in_ok-told.ensures.line older (id_of s (suc i)) first (row.commands i (option_copied c.at.result) c.at.ensures)
+          count_more (line_of script older s) c.args.out.now c.loop-i.out c.put_place.new.out i
+          (c.loop-i.invariant.lines older s first row)
+          (c.in_ok-told.ensures.line older (id_of s (suc i)) first
+          (row.commands i (option_copied c.at.result) c.at.ensures)
           ∙ ap (λ (n : ℕ). c.loop-i.out ++ line_of script older s n) (sym next));
       unanswered = λ older s first row.
-          let told = c.in_ok-told.ensures.told older (id_of s (suc i)) first (row.commands i (option_copied c.at.result) c.at.ensures) in
+          let told = c.in_ok-told.ensures.told older (id_of s (suc i)) first
+          (row.commands i (option_copied c.at.result) c.at.ensures) in
           counted c
           ∙ ap (λ (n : ℕ). n + cond {A = ℕ} c.in_ok-told.told 0 1) (c.loop-i.invariant.unanswered older s first row)
-          ∙ ap (λ (n : ℕ). length (filter (is_open script older s) (up_to i)) + n) (counted_told (reply_to script older (id_of s (suc i))) c.in_ok-told.told told)
-          ∙ ap (λ (n : ℕ). length (filter (is_open script older s) (up_to i)) + cond {A = ℕ} (is_open script older s n) 1 0) (sym next)
+          ∙ ap (λ (n : ℕ). length (filter (is_open script older s) (up_to i)) + n)
+          (counted_told (reply_to script older (id_of s (suc i))) c.in_ok-told.told told)
+          ∙ ap (λ (n : ℕ). length (filter (is_open script older s) (up_to i)) + cond {A = ℕ} (is_open script older s n)
+          1 0) (sym next)
           ∙ sym (filter_more (is_open script older s) i);
       few = omega (arith, counted c, at_most_one c.in_ok-told.told, c.loop-i.invariant.few);
     }

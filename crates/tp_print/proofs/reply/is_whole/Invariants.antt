@@ -6,4 +6,5 @@ use Rattle.tp_topology.specs.Counting.{up_to}
 use Rattle.tp_print.proofs.reply.is_whole.Given as goal
 
 abbrev pub invariant-loop-i : goal.invariant-loop-i
-invariant-loop-i l = l.whole ≡ list_all (λ q. is_some (kept_in l.first q)) (filter (is_accessed l.topology.partitions l.command) (up_to l.i))
+invariant-loop-i l = l.whole ≡ list_all (λ q. is_some (kept_in l.first q))
+    (filter (is_accessed l.topology.partitions l.command) (up_to l.i))

@@ -11,5 +11,6 @@ invariant-loop-op l = record {
   places : length l.taken ≡ 4;
   bound : (k : ℕ) → get_or l.taken k 0 ≤ l.op-index;
   so_far : l.initial.out ++ flat_map spaced (map answer_word (merged l.partitions l.op-items (answers_in l.first)))
-      ≡ l.out ++ flat_map spaced (map answer_word (merged l.partitions (drop l.op-index l.op-items) (left l.first l.taken)));
+      ≡ l.out ++ flat_map spaced (map answer_word
+      (merged l.partitions (drop l.op-index l.op-items) (left l.first l.taken)));
 }

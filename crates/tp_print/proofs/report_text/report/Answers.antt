@@ -12,14 +12,18 @@ returns c =
     let script = c.args.script.now in
     let older = reverse c.args.entries.now in
     let outcome : IsOutcome older c.in_ok-outcome.outcome =
-        subst (λ (journal : List Entry). IsOutcome (reverse journal) c.in_ok-outcome.outcome) c.as_slice.ensures c.in_ok-outcome.ensures in
+    subst (λ (journal : List Entry). IsOutcome (reverse journal) c.in_ok-outcome.outcome) c.as_slice.ensures
+    c.in_ok-outcome.ensures in
     c.finish.ensures
     ∙ report_is script c.args.entries.now c.in_ok-unanswered.unanswered
-    c.bytes.new.self c.put_replies.new.out c.put_orders.new.out c.put_line.new.out c.bytes-2.new.self c.put_count.new.out c.bytes-3.new.self
+    c.bytes.new.self c.put_replies.new.out c.put_orders.new.out c.put_line.new.out c.bytes-2.new.self
+    c.put_count.new.out c.bytes-3.new.self
     (c.in_ok-unanswered.ensures.unanswered older outcome.results)
     (c.in_ok-bytes.ensures.written ∙ ap (λ (l : List ℕ). l ++ (codes "report 1" ++ 10 ∷ [])) c.new-out.ensures)
     (c.in_ok-unanswered.ensures.lines older outcome.results)
-    (c.in_ok-put_orders.ensures older outcome.sites ∙ ap (λ (l : List ℕ). c.put_replies.new.out ++ l) (order_lines_are script older))
+    (c.in_ok-put_orders.ensures older outcome.sites
+    ∙ ap (λ (l : List ℕ). c.put_replies.new.out ++ l) (order_lines_are script older))
     (c.in_ok-put_line.ensures
-    ∙ ap (λ (ids : List CommandId). c.put_orders.new.out ++ text_line (codes "line") (map id_word ids)) (c.as_slice-3.ensures.keys ∙ outcome.line))
+    ∙ ap (λ (ids : List CommandId). c.put_orders.new.out ++ text_line (codes "line") (map id_word ids))
+    (c.as_slice-3.ensures.keys ∙ outcome.line))
     c.in_ok-bytes-2.ensures.written c.in_ok-put_count.ensures c.in_ok-bytes-3.ensures.written

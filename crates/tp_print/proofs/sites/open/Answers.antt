@@ -4,4 +4,5 @@ use Rattle.tp_print.proofs.sites.open.Goals as goal
 
 pub returns-in_ok-insert-clause-recorded : goal.returns-in_ok-insert-clause-recorded
 returns-in_ok-insert-clause-recorded c = λ older.
-    site_opened older c.args.sites.now c.insert.new.self c.args.site c.new.result (sym c.contains_key.ensures ∙ c.if-not-contains_key.true) c.new.ensures c.in_ok-insert.ensures.updates.0
+    site_opened older c.args.sites.now c.insert.new.self c.args.site c.new.result
+    (sym c.contains_key.ensures ∙ c.if-not-contains_key.true) c.new.ensures c.in_ok-insert.ensures.updates.0

@@ -10,7 +10,8 @@ returns-then-is_some-clause-places c = λ i.
     let within : place < length c.self.inside.commands.items = omega (arith, c.len.ensures) in
     let some : is_some c.index.result.now ≡ true = cc in
     ap (λ row. slice_get row i) (sym c.self.view_is)
-    ∙ put_again c.self.inside.commands.items c.args.command.now place c.index.result.now number within c.index.ensures some i
+    ∙ put_again c.self.inside.commands.items c.args.command.now place c.index.result.now number within c.index.ensures
+    some i
     ∙ ap (λ row. option_map (put_at c.args.command.now i) (slice_get row i)) c.self.view_is
 
 pub returns-clause-places : goal.returns-clause-places

@@ -1,7 +1,7 @@
 use Rattle.std.proofs.Common.{[], ◌≡◌, ◌<◌, ◌-◌, suc, length, refl, arith}
 use Rattle.std.proofs.lemmas.Option.{slice_get_read}
 use Rattle.tp_print.proofs.Placing.{count_nowhere, count_there}
-use Rattle.tp_print.proofs.commands.count.Goals as goal
+use Rattle.tp_print.proofs.commands.make_place.Goals as goal
 
 pub returns-then-len-session : goal.returns-then-len-session
 returns-then-len-session c = λ sessions counted h.
@@ -10,8 +10,11 @@ returns-then-len-session c = λ sessions counted h.
 
 pub returns : goal.returns
 returns c = λ sessions counted h.
-    let at : c.args.command.now.id.session.0 ≡ suc (c.from-session.result - 1) = omega (arith, c.from-session.ensures) in
+    let at : c.args.command.now.id.session.0 ≡ suc (c.from-session.result - 1) =
+    omega (arith, c.from-session.ensures) in
     let within : c.from-session.result - 1 < length c.args.table.now.items = omega (arith, c.len.ensures) in
-    count_there sessions counted [] c.args.table.now.items c.args.command.now (c.from-session.result - 1) c.index_mut.result.now c.extend.new.self at
-    (slice_get_read c.args.table.now.items (length c.args.table.now.items) (c.from-session.result - 1) c.index_mut.result.now refl within c.index_mut.ensures.value)
-    h c.in_ok-extend.ensures
+    count_there sessions counted [] c.args.table.now.items c.args.command.now (c.from-session.result - 1)
+    c.index_mut.result.now c.add_place.new.self at
+    (slice_get_read c.args.table.now.items (length c.args.table.now.items) (c.from-session.result - 1)
+    c.index_mut.result.now refl within c.index_mut.ensures.value)
+    h c.in_ok-add_place.ensures
