@@ -1,6 +1,8 @@
 pub mod Places
 pub mod Parts
 pub mod Rosters
+pub mod SamePassages
+pub mod FateTables
 pub mod Fates
 pub mod Watches
 pub mod Outputs

@@ -1,3 +1,4 @@
 pub mod Netbook
 pub mod Places
 pub mod Served
+pub mod Fates

@@ -2,6 +2,7 @@
 //! the actors' own steps.
 #![tactic(auto)]
 
+mod fate;
 mod line;
 mod netbook;
 mod output;
