@@ -1,21 +1,18 @@
 -- The watches before and after an entry is counted.
-use Rattle.std.proofs.Common.{◌≡◌, ℕ, zero, suc, ◌+◌, ◌<◌, ◌≤◌, inl, inr, true, false, List, [], ◌∷◌, ◌++◌, get_or, length, map, set, take, Some, refl, sym, ap, subst, ◌∙◌, arith}
+use Rattle.std.proofs.Common.{◌≡◌, ℕ, zero, suc, ◌+◌, ◌<◌, ◌≤◌, inl, inr, List, [], ◌∷◌, ◌++◌, get_or, length, set, take, Some, refl, sym, ap, subst, ◌∙◌, arith}
 use Rattle.std.proofs.lemmas.Bool.{cases_eq}
-use Rattle.std.proofs.lemmas.List.{append-nil, length-set, map-append}
-use Rattle.std.proofs.lemmas.List.Elements.{filter-append}
+use Rattle.std.proofs.lemmas.List.{length-set}
 use Rattle.std.proofs.lemmas.Option.{slice_get-get_or, slice_get_within}
-use Rattle.std.specs.Prelude.{filter, slice_get}
+use Rattle.std.specs.Prelude.{slice_get}
 use Rattle.tp_base.proofs.Ends.{get_set_other, get_set_same}
 use Rattle.tp_base.specs.declared.names.ActorName.{ActorName}
 use Rattle.tp_base.specs.declared.names.ActorName.TheVariants.{Process, Executor, Session}
 use Rattle.tp_base.specs.declared.names.Site.{Site}
-use Rattle.tp_netbook.specs.Netbook.{AreCounted, IsCounted, IsCountedAt, is_alive, lives, new_outputs, output_of, watch_of}
+use Rattle.tp_netbook.specs.Netbook.{AreCounted, IsCounted, IsCountedAt, is_alive, lives, watch_of}
 use Rattle.tp_netbook.specs.Places.{place_of_site}
 use Rattle.tp_netbook.specs.declared.netbook.Netbook.{Netbook}
 use Rattle.tp_netbook.specs.declared.watch.Watch.{Watch}
-use Rattle.tp_netbook.specs.declared.output.Output.{Output}
 use Rattle.tp_rules.proofs.Parcels.{parcel}
-use Rattle.tp_rules.proofs.Tallies.{filter_no, filter_yes}
 use Rattle.tp_rules.specs.Journal.{numbered}
 use Rattle.tp_rules.specs.declared.event.Event.{Event}
 use Rattle.tp_rules.specs.declared.event.Parcel.{Parcel}
@@ -55,7 +52,7 @@ watch_alike book then s topology sites =
 
 -- the outputs of an entry, one after the other
 
-numbered_next : (n k i : ℕ) (ms : List Message) (m : Message) → slice_get ms i ≡ Some m → numbered n k (take (i + 1) ms) ≡ numbered n k (take i ms) ++ parcel n (k + i) m ∷ []
+pub numbered_next : (n k i : ℕ) (ms : List Message) (m : Message) → slice_get ms i ≡ Some m → numbered n k (take (i + 1) ms) ≡ numbered n k (take i ms) ++ parcel n (k + i) m ∷ []
 numbered_next n k i [] m at = absurd cc
 numbered_next n k zero (x ∷ ms) m at =
     let same : x ≡ m = cc in
@@ -68,25 +65,6 @@ numbered_next n k (suc i) (x ∷ ms) m at =
     ap (λ (j : ℕ). numbered n k (take j (x ∷ ms))) one
     ∙ ap (λ (l : List Parcel). parcel n k x ∷ l) (numbered_next n (suc k) i ms m at)
     ∙ ap (λ (j : ℕ). parcel n k x ∷ numbered n (suc k) (take i ms) ++ parcel n j m ∷ []) place
-
-module _ (book : Netbook) (entry i : ℕ) (ms : List Message) (m : Message) (at : slice_get ms i ≡ Some m) where
-  abbrev here : Output
-  here = record { entry = entry; place = i + 1; to = m.to }
-
-  with_next : new_outputs book entry (take (i + 1) ms) ≡ new_outputs book entry (take i ms) ++ filter (λ o. is_alive book o.to) (here ∷ [])
-  with_next =
-      let place : 1 + i ≡ i + 1 = omega arith in
-      ap (λ (l : List Parcel). filter (λ o. is_alive book o.to) (map output_of l)) (numbered_next entry 1 i ms m at ∙ ap (λ (j : ℕ). numbered entry 1 (take i ms) ++ parcel entry j m ∷ []) place)
-      ∙ ap (filter (λ o. is_alive book o.to)) (map-append output_of (numbered entry 1 (take i ms)) (parcel entry (i + 1) m ∷ []))
-      ∙ filter-append (λ o. is_alive book o.to) (map output_of (numbered entry 1 (take i ms))) (here ∷ [])
-
-  pub one_added : is_alive book m.to ≡ true → new_outputs book entry (take (i + 1) ms) ≡ new_outputs book entry (take i ms) ++ here ∷ []
-  one_added alive = with_next ∙ ap (λ (l : List Output). new_outputs book entry (take i ms) ++ l) (filter_yes (λ (o : Output). is_alive book o.to) here [] alive)
-
-  pub none_added : is_alive book m.to ≡ false → new_outputs book entry (take (i + 1) ms) ≡ new_outputs book entry (take i ms)
-  none_added dead =
-      with_next ∙ ap (λ (l : List Output). new_outputs book entry (take i ms) ++ l) (filter_no (λ (o : Output). is_alive book o.to) here [] dead)
-      ∙ append-nil (new_outputs book entry (take i ms))
 
 pub item_there : (ms now : List Message) (i : ℕ) (m : Message) → now ≡ ms → m ≡ get_or now i m → (end : ℕ) → i < end → end ≡ length ms → slice_get ms i ≡ Some m
 item_there ms now i m same is end lt many =

@@ -1,42 +1,31 @@
 -- The fates that a netbook keeps are those of the plan, line by line. Used by the functions on fates.
-use Rattle.std.proofs.Common.{◌≡◌, ℕ, zero, suc, ◌+◌, ◌-◌, ◌<◌, length, arith, Result, Ok, Err, OnOk, Bool, true, false, List, [], ◌∷◌, Option, Some, None, refl, sym, ap, subst, ◌∙◌}
-use Rattle.std.proofs.lemmas.Bool.{and_parts, cases_Bool, eqb-true}
-use Rattle.std.specs.List.{list_any}
-use Rattle.std.specs.Prelude.{◌==◌, ◌&&◌, ◌||◌, cond, filter_map, option_map, drop, slice_get}
-use Rattle.tp_base.proofs.SameNames.{same_name_is}
-use Rattle.tp_base.specs.Names.{same_name}
+use Rattle.std.proofs.Common.{◌≡◌, ℕ, suc, ◌+◌, ◌-◌, ◌<◌, length, arith, Result, Ok, Err, OnOk, Bool, true, false, List, [], ◌∷◌, Option, Some, None, refl, sym, ap, subst, ◌∙◌}
+use Rattle.std.proofs.lemmas.Bool.{and_parts, eqb-true}
+use Rattle.std.specs.Prelude.{◌==◌, cond, filter_map, option_map, drop, slice_get}
 use Rattle.tp_base.specs.declared.names.ActorName.{ActorName}
+use Rattle.tp_netbook.proofs.Parts.{drop_next}
+use Rattle.tp_netbook.proofs.SameRoutes.{same_route_is}
 use Rattle.tp_netbook.specs.Fates.{AreFates, Names, fate_of, first_times, is_lost, named_by, named_in, repeated, same_passage}
+use Rattle.tp_netbook.specs.Routes.{same_route}
 use Rattle.tp_netbook.specs.declared.fate.Fate.{Fate as FateValue}
 use Rattle.tp_netbook.specs.declared.fate.Fate.TheVariants.{Lost as IsLost, Times as IsTimes}
 use Rattle.tp_netbook.specs.declared.fate.Fates.{Fates}
 use Rattle.tp_netbook.specs.declared.fate.Passage.{Passage}
-use Rattle.tp_rules.specs.Plan.{Fate, Lost, Times, fate_by, first_or, is_lost_by, repeated_by, times_for_all}
+use Rattle.tp_rules.specs.Plan.{Fate, Lost, Times, fate_by, first_or, times_for_all}
 use Rattle.tp_script.specs.declared.script.PlanLine.{PlanLine}
 use Rattle.tp_script.specs.declared.script.PlanLine.TheVariants.{Crash, Recover, Lose, Repeat, RepeatAll}
 use Rattle.tp_base.specs.declared.names.Site.{Site}
 use Rattle.tp_base.specs.declared.names.CommandId.{CommandId}
 
 abbrev numbered : ActorName → ActorName → ℕ → Passage
-numbered from to n = record { from = from; to = to; ordinal = n }
-
-and_grouped : (a b c : Bool) → ((a && b) && c) ≡ (a && (b && c))
-and_grouped true b c = refl
-and_grouped false b c = refl
+numbered from to n = record { route = record { from = from; to = to }; ordinal = n }
 
 pub same_passage_is : (a b : Passage) → same_passage a b ≡ true → a ≡ b
 same_passage_is a b h =
-    let x = and_parts (same_name a.from b.from) (same_name a.to b.to && (a.ordinal == b.ordinal)) h in
-    let y = and_parts (same_name a.to b.to) (a.ordinal == b.ordinal) x.1 in
-    let from : a.from ≡ b.from = same_name_is a.from b.from x.0 in
-    let to : a.to ≡ b.to = same_name_is a.to b.to y.0 in
-    let ordinal : a.ordinal ≡ b.ordinal = eqb-true a.ordinal b.ordinal y.1 in
-    λ i. record { from = from i; to = to i; ordinal = ordinal i }
-
--- whether a plan line names an output
-named_as : (from to : ActorName) (n : ℕ) (q : Passage) (b : Bool) → same_passage (numbered from to n) q ≡ b
-    → (same_name from q.from && same_name to q.to && (n == q.ordinal)) ≡ b
-named_as from to n q b e = and_grouped (same_name from q.from) (same_name to q.to) (n == q.ordinal) ∙ e
+    let parts = and_parts (same_route a.route b.route) (a.ordinal == b.ordinal) h in
+    let route : a.route ≡ b.route = same_route_is a.route b.route parts.0 in
+    let ordinal : a.ordinal ≡ b.ordinal = eqb-true a.ordinal b.ordinal parts.1 in
+    λ i. record { route = route i; ordinal = ordinal i }
 
 -- a fate by its name, or that of all others, is the plan's
 
@@ -51,10 +40,10 @@ unnamed_fate false [] n e = refl
 unnamed_fate false (m ∷ ms) n e = absurd cc
 
 module _ (plan : List PlanLine) (fates : Fates) (are : AreFates plan fates) (p : Passage) where
-  pub fate_is : (f : FateValue) → named_in fates p ≡ Some f → fate_of f ≡ fate_by plan p.from p.to p.ordinal
+  pub fate_is : (f : FateValue) → named_in fates p ≡ Some f → fate_of f ≡ fate_by plan p.route.from p.route.to p.ordinal
   fate_is f e = named_fate _ _ _ (fate_of f) (sym (are.named p) ∙ ap (option_map fate_of) e)
 
-  pub fate_of_others : named_in fates p ≡ None → Times fates.others ≡ fate_by plan p.from p.to p.ordinal
+  pub fate_of_others : named_in fates p ≡ None → Times fates.others ≡ fate_by plan p.route.from p.route.to p.ordinal
   fate_of_others e = ap (λ (n : ℕ). Times n) are.others ∙ unnamed_fate _ _ _ (sym (are.named p) ∙ ap (option_map fate_of) e)
 
 -- an output that the plan loses stays lost where it is repeated
@@ -75,16 +64,10 @@ repeated_is None times e = refl
 repeated_is (Some IsLost) times e = absurd cc
 repeated_is (Some (IsTimes n)) times e = refl
 
--- the lines of a plan from a place on
-pub drop_next : (plan : List PlanLine) (i : ℕ) (line : PlanLine) → slice_get plan i ≡ Some line → drop i plan ≡ line ∷ drop (suc i) plan
-drop_next [] i line at = absurd cc
-drop_next (x ∷ xs) zero line at = let same : x ≡ line = cc in ap (λ (y : PlanLine). y ∷ xs) same
-drop_next (x ∷ xs) (suc i) line at = drop_next xs i line at
-
 -- one more line
 
 module _ (plan : List PlanLine) (old new : Fates) (are : AreFates plan old) where
-  passed : (line : PlanLine) → ((q : Passage) → named_by (line ∷ plan) q.from q.to q.ordinal ≡ named_by plan q.from q.to q.ordinal)
+  passed : (line : PlanLine) → ((q : Passage) → named_by (line ∷ plan) q.route.from q.route.to q.ordinal ≡ named_by plan q.route.from q.route.to q.ordinal)
       → filter_map times_for_all (line ∷ plan) ≡ filter_map times_for_all plan → old ≡ new → AreFates (line ∷ plan) new
   passed line named others same = record {
     named = λ q. ap (λ (f : Fates). option_map fate_of (named_in f q)) (sym same) ∙ are.named q ∙ sym (named q);
@@ -98,9 +81,9 @@ module _ (plan : List PlanLine) (old new : Fates) (are : AreFates plan old) wher
   }
     where
       by : (q : Passage) (b : Bool) → same_passage (numbered from to n) q ≡ b
-          → option_map fate_of (cond b (Some IsLost) (named_in old q)) ≡ named_by (Lose from to n ∷ plan) q.from q.to q.ordinal
-      by q true e = rw (named_as from to n q true e) refl
-      by q false e = rw (named_as from to n q false e) (are.named q)
+          → option_map fate_of (cond b (Some IsLost) (named_in old q)) ≡ named_by (Lose from to n ∷ plan) q.route.from q.route.to q.ordinal
+      by q true e = rw e refl
+      by q false e = rw e (are.named q)
 
   pub with_times : (from to : ActorName) (n times : ℕ) → Names old new (numbered from to n) (repeated times (named_in old (numbered from to n)))
       → AreFates (Repeat from to n times ∷ plan) new
@@ -120,11 +103,11 @@ module _ (plan : List PlanLine) (old new : Fates) (are : AreFates plan old) wher
       again (Some (IsTimes m)) false ns e = refl
 
       by : (q : Passage) (b : Bool) → same_passage (numbered from to n) q ≡ b
-          → option_map fate_of (cond b (repeated times (named_in old (numbered from to n))) (named_in old q)) ≡ named_by (Repeat from to n times ∷ plan) q.from q.to q.ordinal
-      by q false e = rw (named_as from to n q false e) (are.named q)
+          → option_map fate_of (cond b (repeated times (named_in old (numbered from to n))) (named_in old q)) ≡ named_by (Repeat from to n times ∷ plan) q.route.from q.route.to q.ordinal
+      by q false e = rw e (are.named q)
       by q true e =
           let same : numbered from to n ≡ q = same_passage_is (numbered from to n) q e in
-          rw (named_as from to n q true e) (again (named_in old (numbered from to n)) _ _
+          rw e (again (named_in old (numbered from to n)) _ _
           (ap (λ (p : Passage). option_map fate_of (named_in old p)) same ∙ are.named q))
 
   pub with_all : (times : ℕ) → ((q : Passage) → named_in new q ≡ named_in old q) → new.others ≡ times → AreFates (RepeatAll times ∷ plan) new

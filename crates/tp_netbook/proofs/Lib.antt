@@ -1,10 +1,13 @@
 pub mod Places
 pub mod Parts
 pub mod Rosters
-pub mod SamePassages
+pub mod SameRoutes
 pub mod FateTables
-pub mod Fates
+pub mod FirstTimes
+pub mod RouteCounts
 pub mod Watches
 pub mod Outputs
 pub mod Counting
+pub mod Adding
+pub mod NewOutputs
 pub mod Steps

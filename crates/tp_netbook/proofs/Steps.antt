@@ -4,35 +4,42 @@ use Rattle.std.proofs.lemmas.Bool.{and_parts, cases_Bool}
 use Rattle.std.proofs.lemmas.List.{length-append, length-reverse, map-append}
 use Rattle.std.proofs.lemmas.Option.{slice_get_within}
 use Rattle.std.proofs.lemmas.Slice.Zip.{length-zip}
+use Rattle.std.specs.List.{retain_mut}
 use Rattle.std.specs.List.{zip}
-use Rattle.std.specs.Prelude.{not, min, nat_lt, is_none, ◌&&◌, filter, filter_map, reverse, slice_get}
+use Rattle.std.specs.Prelude.{min, nat_lt, is_none, ◌&&◌, filter, filter_map, reverse, slice_get}
 use Rattle.tp_base.proofs.Each.{each_in}
 use Rattle.tp_base.proofs.Ends.{reverse_push, slice_get_left, slice_get_right}
 use Rattle.tp_base.proofs.Members.{get_in, in_right}
 use Rattle.tp_base.specs.Lists.{IsIn}
 use Rattle.tp_base.specs.declared.names.ActorName.{ActorName}
-use Rattle.tp_netbook.proofs.Fates.{fate_once}
-use Rattle.tp_netbook.proofs.Outputs.{filter_like, map_filter, outputs_more}
+use Rattle.tp_netbook.proofs.Outputs.{may_have, news_more, olds_more, outputs_more, sent_few}
+use Rattle.tp_netbook.proofs.NewOutputs.{new_are}
 use Rattle.tp_netbook.proofs.Places.{few_actors, few_sites, place_get}
+use Rattle.tp_netbook.proofs.Parts.{and_true}
 use Rattle.tp_netbook.proofs.Watches.{alive_is, lines_are, undue_is, watches_more}
 use Rattle.tp_netbook.specs.Netbook as book
-use Rattle.tp_netbook.specs.Netbook.{AreCounted, AreNext, AreWatches, IsNetbook, deliveries, delivery_item, is_alive, is_free, is_settled, is_undue, line_item, lines, new_outputs, output_of, outputs_left, own_items}
-use Rattle.tp_netbook.specs.Served.{IsServed}
+use Rattle.tp_netbook.specs.Fates.{AreFates}
+use Rattle.tp_netbook.specs.Netbook.{Adds, AreCounted, AreNext, AreWatches, IsNetbook, KeepsRest, deliveries, delivery_item, is_alive, is_free, is_undue, line_item, lines, new_outputs, outputs_left, own_items}
+use Rattle.tp_netbook.specs.Outputs.{loses, output_of, passed, waits}
+use Rattle.tp_netbook.specs.Routes.{AreCounts}
 use Rattle.tp_netbook.specs.declared.netbook.Netbook.{Netbook}
 use Rattle.tp_netbook.specs.declared.output.Output.{Output}
 use Rattle.tp_rules.proofs.Histories.{free_history}
 use Rattle.tp_rules.proofs.InRange.{sent_known}
+use Rattle.tp_rules.proofs.Parcels.{sent_within}
 use Rattle.tp_rules.proofs.Tallies.{filter_no, filter_yes}
 use Rattle.tp_rules.specs.Journal.{acts, identity_in, is_known, is_live, numbered, sent}
-use Rattle.tp_rules.specs.Pending.{actors_of, due_item, inner_item, is_waiting, item, own_item, parcel_item, pending, sites_of}
-use Rattle.tp_rules.specs.Plan.{Times, deliveries_left, due_of, fate_of}
+use Rattle.tp_rules.specs.Pending.{actors_of, due_item, event_by, inner_item, is_waiting, item, own_item, parcel_item, pending, sites_of}
+use Rattle.tp_rules.specs.Plan.{Fate, Lost, Times, deliveries_left, due_of, fate_of}
 use Rattle.tp_rules.specs.Rules.{enabled}
 use Rattle.tp_rules.specs.Runs.{IsFreeHistory, IsHistory, IsRun}
 use Rattle.tp_rules.specs.declared.event.Entry.{Entry}
-use Rattle.tp_rules.specs.declared.event.Event.TheVariants.{Deliver}
+use Rattle.tp_rules.specs.declared.event.Event.{Event}
+use Rattle.tp_rules.specs.declared.event.Event.TheVariants.{Deliver, Dropped}
 use Rattle.tp_rules.specs.declared.event.Inner.{Inner}
 use Rattle.tp_rules.specs.declared.event.Item.{Item}
 use Rattle.tp_rules.specs.declared.event.Parcel.{Parcel}
+use Rattle.tp_script.specs.Accepted.{IsAccepted}
 use Rattle.tp_script.specs.declared.script.Script.{Script}
 
 kept_fewer : {X Y : Type 0} (f : X → Option Y) (xs : List X) → length (filter_map f xs) ≤ length xs
@@ -76,13 +83,13 @@ beyond [] i o e none = omega arith
 beyond (x ∷ xs) zero o e none = absurd (none x e)
 beyond (x ∷ xs) (suc i) o e none = let rest : length xs ≤ i = beyond xs i o e none in omega arith
 
-module _ (script : Script) (journal : List Entry) (b : Netbook) (is : IsNetbook script journal b) (served : IsServed script) (run : IsRun script journal) where
+module _ (script : Script) (journal : List Entry) (b : Netbook) (is : IsNetbook script journal b) (accepted : IsAccepted script) (run : IsRun script journal) where
   history : IsFreeHistory script (reverse journal)
   unfolding IsRun
   history = free_history script (reverse journal) run
 
   to_known : (p : Parcel) → IsIn p (sent (reverse journal)) → is_known script p.message.to ≡ true
-  to_known p h = each_in (λ (q : Parcel). is_known script q.message.to ≡ true) (sent (reverse journal)) p (sent_known script served.accepted (reverse journal) history) h
+  to_known p h = each_in (λ (q : Parcel). is_known script q.message.to ≡ true) (sent (reverse journal)) p (sent_known script accepted (reverse journal) history) h
 
   alive : (a : ActorName) → is_known script a ≡ true → is_alive b a ≡ is_live (reverse journal) a
   alive = alive_is script (reverse journal) b is.topology is.sites
@@ -97,29 +104,27 @@ module _ (script : Script) (journal : List Entry) (b : Netbook) (is : IsNetbook 
 
   -- deliveries
 
-  abbrev delivery : Parcel → Item
-  delivery p = item p.message.to (Deliver p.entry p.place)
-
   abbrev left : Parcel → Bool
   left p = nat_lt 0 (deliveries_left script (reverse journal) p)
 
-  parcel_is : (p : Parcel) → parcel_item script (reverse journal) p ≡ cond (is_waiting script (reverse journal) p.message.to && left p) (Some (delivery p)) None
-  parcel_is p = let once : fate_of script (reverse journal) p ≡ Times 1 = fate_once script served.plain (reverse journal) p in rw once refl
+  event_is : (fate : Fate) (p : Parcel) → cond (loses fate) (Dropped p.entry p.place) (Deliver p.entry p.place) ≡ event_by fate p
+  event_is Lost p = refl
+  event_is (Times n) p = refl
 
   -- one that is left is pending where its addressee is free, and one that isn't left isn't
-  stays_item : (p : Parcel) → IsIn p (sent (reverse journal)) → (is_live (reverse journal) p.message.to && left p) ≡ true → delivery_item b (output_of p) ≡ parcel_item script (reverse journal) p
+  stays_item : (p : Parcel) → IsIn p (sent (reverse journal)) → (is_live (reverse journal) p.message.to && left p) ≡ true
+      → delivery_item b (output_of script (reverse journal) p) ≡ parcel_item script (reverse journal) p
   stays_item p h both =
       let parts = and_parts (is_live (reverse journal) p.message.to) (left p) both in
-      ap (λ (c : Bool). cond c (Some (delivery p)) None) (free p.message.to (to_known p h) ∙ sym (and_true (is_waiting script (reverse journal) p.message.to))
-      ∙ ap (λ (c : Bool). is_waiting script (reverse journal) p.message.to && c) (sym parts.1)) ∙ sym (parcel_is p)
-    where
-      and_true : (c : Bool) → (c && true) ≡ c
-      and_true true = refl
-      and_true false = refl
+      let fate = fate_of script (reverse journal) p in
+      ap (λ (c : Bool). cond c (Some (item p.message.to (cond (loses fate) (Dropped p.entry p.place) (Deliver p.entry p.place)))) None)
+      (free p.message.to (to_known p h) ∙ sym (and_true (is_waiting script (reverse journal) p.message.to))
+      ∙ ap (λ (c : Bool). is_waiting script (reverse journal) p.message.to && c) (sym parts.1))
+      ∙ ap (λ (event : Event). cond (is_waiting script (reverse journal) p.message.to && left p) (Some (item p.message.to event)) None) (event_is fate p)
 
   gone_item : (p : Parcel) → (is_live (reverse journal) p.message.to && left p) ≡ false → parcel_item script (reverse journal) p ≡ None
   gone_item p neither =
-      parcel_is p ∙ ap (λ (c : Bool). cond c (Some (delivery p)) None)
+      ap (λ (c : Bool). cond c (Some (item p.message.to (event_by (fate_of script (reverse journal) p) p))) None)
       (out (is_live (reverse journal) p.message.to) (is_none (due_of script (reverse journal) p.message.to)) (left p) neither)
     where
       out : (a c d : Bool) → (a && d) ≡ false → ((a && c) && d) ≡ false
@@ -132,7 +137,7 @@ module _ (script : Script) (journal : List Entry) (b : Netbook) (is : IsNetbook 
   unfolding outputs_left
   deliveries_all =
       ap (filter_map (delivery_item b)) is.waiting
-      ∙ kept_of (delivery_item b) output_of (λ p. is_live (reverse journal) p.message.to && left p) (parcel_item script (reverse journal)) (sent (reverse journal)) stays_item (λ p h. gone_item p)
+      ∙ kept_of (delivery_item b) (output_of script (reverse journal)) (λ p. is_live (reverse journal) p.message.to && left p) (parcel_item script (reverse journal)) (sent (reverse journal)) stays_item (λ p h. gone_item p)
 
   -- own steps
 
@@ -170,7 +175,7 @@ module _ (script : Script) (journal : List Entry) (b : Netbook) (is : IsNetbook 
         let few_own : length (own_items b next) ≤ length (zip b.roster.items next) = kept_fewer (book.own_item b) (zip b.roster.items next) in
         let few_zip : length (zip b.roster.items next) ≤ length b.roster.items = omega (arith, length-zip b.roster.items next) in
         let same : length b.roster.items ≡ length (actors_of script) = ap length is.roster in
-        let actors : length (actors_of script) ≤ 72 = few_actors script served.accepted.shape (omega (arith, served.accepted.sessions)) in
+        let actors : length (actors_of script) ≤ 72 = few_actors script accepted.shape (omega (arith, accepted.sessions)) in
         let sites : length (sites_of script) ≤ length (actors_of script) = few_sites script in
         omega (arith, many_steps x y z a c d, few_lines, is.sites.many)
 
@@ -199,7 +204,7 @@ module _ (script : Script) (journal : List Entry) (b : Netbook) (is : IsNetbook 
 
 -- a netbook after one more entry
 
-module _ (script : Script) (journal : List Entry) (e : Entry) (b : Netbook) (is : IsNetbook script journal b) (served : IsServed script)
+module _ (script : Script) (journal : List Entry) (e : Entry) (b : Netbook) (is : IsNetbook script journal b) (accepted : IsAccepted script)
     (run : IsRun script (journal ++ e ∷ [])) (short : length journal + 1 < 2 ^ 64) where
   abbrev older : List Entry
   older = reverse journal
@@ -217,54 +222,74 @@ module _ (script : Script) (journal : List Entry) (e : Entry) (b : Netbook) (is 
   as_long : length older ≡ length journal
   as_long = length-reverse journal
 
-  stay_filtered : filter (λ o. not (is_settled e.actor e.event o)) b.waiting.items ≡ map output_of (filter (λ p. not (is_settled e.actor e.event (output_of p))) (outputs_left script older))
-  stay_filtered =
-      ap (filter (λ o. not (is_settled e.actor e.event o))) is.waiting
-      ∙ map_filter output_of (λ o. not (is_settled e.actor e.event o)) (outputs_left script older)
-
-  -- after the outputs are settled (b1), the entry is counted (b2) and its outputs are added (b3)
+  -- after the event has passed by the outputs (b1), the entry is counted (b2) and its outputs are added (b3)
   module _ (b1 b2 b3 : Netbook)
-      (waiting1 : b1.waiting.items ≡ filter (λ o. not (is_settled e.actor e.event o)) b.waiting.items)
-      (topology1 : b1.topology ≡ b.topology) (sites1 : b1.sites ≡ b.sites) (roster1 : b1.roster ≡ b.roster)
+      (waiting1 : b1.waiting.items ≡ retain_mut (λ o. waits e.actor e.event (passed e.event o)) (passed e.event) b.waiting.items)
+      (rest1 : KeepsRest b b1) (routes1 : b1.routes ≡ b.routes)
       (counted : AreCounted e.actor e.event b1 b1.sites.items b2.sites.items)
-      (topology2 : b2.topology ≡ b1.topology) (waiting2 : b2.waiting ≡ b1.waiting) (roster2 : b2.roster ≡ b1.roster) (entries2 : b2.entries ≡ suc (length journal))
-      (waiting3 : b3.waiting.items ≡ b2.waiting.items ++ new_outputs b2 b2.entries e.outputs)
-      (topology3 : b3.topology ≡ b2.topology) (sites3 : b3.sites ≡ b2.sites) (roster3 : b3.roster ≡ b2.roster) (entries3 : b3.entries ≡ b2.entries) where
+      (topology2 : b2.topology ≡ b1.topology) (waiting2 : b2.waiting ≡ b1.waiting) (roster2 : b2.roster ≡ b1.roster) (fates2 : b2.fates ≡ b1.fates)
+      (routes2 : b2.routes ≡ b1.routes) (entries2 : b2.entries ≡ suc (length journal))
+      (adds : Adds (numbered b2.entries 1 e.outputs) b2 b3) (rest3 : KeepsRest b2 b3) where
+    abbrev news : List Parcel
+    news = numbered (suc (length older)) 1 e.outputs
+
     topology_now : b2.topology ≡ script.topology
-    topology_now = topology2 ∙ topology1 ∙ is.topology
+    topology_now = topology2 ∙ rest1.topology ∙ is.topology
 
     sites_then : AreWatches script older b1.sites.items
-    sites_then = subst (λ sites. AreWatches script older sites.items) (sym sites1) is.sites
+    sites_then = subst (λ sites. AreWatches script older sites.items) (sym rest1.sites) is.sites
 
     sites_now : AreWatches script (e ∷ older) b2.sites.items
-    sites_now = watches_more script older e b1 b2.sites.items (topology1 ∙ is.topology) sites_then now.1.known (omega (arith, as_long, short)) counted
+    sites_now = watches_more script older e b1 b2.sites.items (rest1.topology ∙ is.topology) sites_then now.1.known (omega (arith, as_long, short)) counted
 
-    new_known : (p : Parcel) → IsIn p (numbered (suc (length older)) 1 e.outputs) → is_known script p.message.to ≡ true
+    fates_now : AreFates script.plan b2.fates
+    fates_now = subst (AreFates script.plan) (sym (fates2 ∙ rest1.fates)) is.fates
+
+    routes_now : AreCounts (sent older) b2.routes
+    routes_now = subst (AreCounts (sent older)) (sym (routes2 ∙ routes1)) is.routes
+
+    new_known : (p : Parcel) → IsIn p news → is_known script p.message.to ≡ true
     new_known p h =
-        each_in (λ (q : Parcel). is_known script q.message.to ≡ true) (sent (e ∷ older)) p (sent_known script served.accepted (e ∷ older) now)
-        (in_right (sent older) (numbered (suc (length older)) 1 e.outputs) p h)
+        each_in (λ (q : Parcel). is_known script q.message.to ≡ true) (sent (e ∷ older)) p (sent_known script accepted (e ∷ older) now)
+        (in_right (sent older) news p h)
 
-    news : new_outputs b2 b2.entries e.outputs ≡ map output_of (filter (λ p. is_live (e ∷ older) p.message.to) (numbered (suc (length older)) 1 e.outputs))
-    news =
-        ap (λ (n : ℕ). filter (λ o. is_alive b2 o.to) (map output_of (numbered n 1 e.outputs))) (entries2 ∙ ap (λ (n : ℕ). suc n) (sym as_long))
-        ∙ map_filter output_of (λ o. is_alive b2 o.to) (numbered (suc (length older)) 1 e.outputs)
-        ∙ ap (map output_of) (filter_like (λ p. is_live (e ∷ older) p.message.to) (λ p. is_alive b2 p.message.to) (numbered (suc (length older)) 1 e.outputs)
-        (λ p h. alive_is script (e ∷ older) b2 topology_now sites_now p.message.to (new_known p h)))
+    few : length (sent older) + length news < 2 ^ 128
+    few =
+        let all : length (sent (e ∷ older)) ≡ length (sent older) + length news = length-append (sent older) news in
+        omega (arith, all, sent_few script accepted (e ∷ older) now, as_long, short)
 
-    olds : b2.waiting.items ≡ map output_of (filter (λ p. not (is_settled e.actor e.event (output_of p))) (outputs_left script older))
-    olds = ap (λ waiting. waiting.items) waiting2 ∙ waiting1 ∙ stay_filtered
+    numbers : numbered b2.entries 1 e.outputs ≡ news
+    numbers = ap (λ (n : ℕ). numbered n 1 e.outputs) (entries2 ∙ ap (λ (n : ℕ). suc n) (sym as_long))
+
+    added_now : (b3.waiting.items ≡ b2.waiting.items ++ new_outputs script.plan (is_alive b2) (sent older) news) × AreCounts (sent older ++ news) b3.routes
+    added_now = subst (λ (ps : List Parcel). Adds ps b2 b3) numbers adds script.plan (sent older) fates_now routes_now few
+
+    olds : b2.waiting.items ≡ map (output_of script (e ∷ older)) (filter (may_have script older e (e ∷ older)) (sent older))
+    olds =
+        ap (λ waiting. waiting.items) waiting2 ∙ waiting1
+        ∙ ap (λ (l : List Output). retain_mut (λ o. waits e.actor e.event (passed e.event o)) (passed e.event) l) is.waiting
+        ∙ olds_more script older e
+
+    news_are : new_outputs script.plan (is_alive b2) (sent older) news ≡ map (output_of script (e ∷ older)) (filter (may_have script older e (e ∷ older)) news)
+    news_are =
+        new_are script older e now (is_alive b2) (sent older) 1 e.outputs refl
+        (λ q h. inl (let within = sent_within older q h in omega (arith, within.1)))
+        (λ p h. alive_is script (e ∷ older) b2 topology_now sites_now p.message.to (new_known p h))
+        ∙ ap (map (output_of script (e ∷ older))) (sym (news_more script older e accepted now))
 
     pub netbook_more : IsNetbook script (journal ++ e ∷ []) b3
     netbook_more = record {
-      topology = topology3 ∙ topology_now;
-      sites = subst (λ l. AreWatches script l b3.sites.items) (sym turned) (subst (λ sites. AreWatches script (e ∷ older) sites.items) (sym sites3) sites_now);
-      roster = ap (λ roster. roster.items) (roster3 ∙ roster2 ∙ roster1) ∙ is.roster;
-      waiting = waiting3 ∙ ap (λ (l : List Output). l ++ new_outputs b2 b2.entries e.outputs) olds
-          ∙ ap (λ (l : List Output). map output_of (filter (λ p. not (is_settled e.actor e.event (output_of p))) (outputs_left script older)) ++ l) news
-          ∙ sym (map-append output_of (filter (λ p. not (is_settled e.actor e.event (output_of p))) (outputs_left script older)) (filter (λ p. is_live (e ∷ older) p.message.to) (numbered (suc (length older)) 1 e.outputs)))
-          ∙ ap (map output_of) (sym (outputs_more script served older e now))
-          ∙ ap (λ (l : List Entry). map output_of (outputs_left script l)) (sym turned);
-      entries = entries3 ∙ entries2 ∙ more;
+      topology = rest3.topology ∙ topology_now;
+      sites = subst (λ l. AreWatches script l b3.sites.items) (sym turned) (subst (λ sites. AreWatches script (e ∷ older) sites.items) (sym rest3.sites) sites_now);
+      roster = ap (λ roster. roster.items) (rest3.roster ∙ roster2 ∙ rest1.roster) ∙ is.roster;
+      fates = subst (AreFates script.plan) (sym rest3.fates) fates_now;
+      routes = subst (λ (l : List Entry). AreCounts (sent l) b3.routes) (sym turned) added_now.1;
+      waiting = added_now.0 ∙ ap (λ (l : List Output). l ++ new_outputs script.plan (is_alive b2) (sent older) news) olds
+          ∙ ap (λ (l : List Output). map (output_of script (e ∷ older)) (filter (may_have script older e (e ∷ older)) (sent older)) ++ l) news_are
+          ∙ sym (map-append (output_of script (e ∷ older)) (filter (may_have script older e (e ∷ older)) (sent older)) (filter (may_have script older e (e ∷ older)) news))
+          ∙ ap (map (output_of script (e ∷ older))) (sym (outputs_more script older e))
+          ∙ ap (λ (l : List Entry). map (output_of script l) (outputs_left script l)) (sym turned);
+      entries = rest3.entries ∙ entries2 ∙ more;
     }
       where
         more : suc (length journal) ≡ length (journal ++ e ∷ [])

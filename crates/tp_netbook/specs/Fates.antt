@@ -2,12 +2,12 @@
 use Rattle.std.specs.List.{list_any}
 use Rattle.std.specs.Prelude.{ℕ, ◌≡◌, ◌==◌, ◌&&◌, Bool, cond, true, false, List, [], ◌∷◌, Option, Some, None, filter_map, option_map}
 use Rattle.indexmap.specs.IndexMap.{get}
-use Rattle.tp_base.specs.Names.{same_name}
 use Rattle.tp_base.specs.declared.names.ActorName.{ActorName}
 use Rattle.tp_netbook.specs.declared.fate.Fate.{Fate as FateValue}
 use Rattle.tp_netbook.specs.declared.fate.Fate.TheVariants.{Lost as IsLost, Times as IsTimes}
 use Rattle.tp_netbook.specs.declared.fate.Fates.{Fates}
 use Rattle.tp_netbook.specs.declared.fate.Passage.{Passage}
+use Rattle.tp_netbook.specs.Routes.{same_route}
 use Rattle.tp_rules.specs.Plan.{Fate, Lost, Times, first_or, is_lost_by, repeated_by, times_for_all}
 use Rattle.tp_script.specs.declared.script.PlanLine.{PlanLine}
 
@@ -16,7 +16,7 @@ fate_of IsLost = Lost
 fate_of (IsTimes n) = Times n
 
 abbrev pub same_passage : Passage → Passage → Bool
-same_passage a b = same_name a.from b.from && (same_name a.to b.to && (a.ordinal == b.ordinal))
+same_passage a b = same_route a.route b.route && (a.ordinal == b.ordinal)
 
 -- the fate that a netbook keeps for an output by its name
 abbrev pub named_in : Fates → Passage → Option FateValue
@@ -32,7 +32,7 @@ named_by plan from to n = cond (list_any (is_lost_by from to n) plan) (Some Lost
 
 -- these are the fates of a plan
 pub record AreFates (plan : List PlanLine) (fates : Fates) : Type 0 where
-  pub named : (passage : Passage) → option_map fate_of (named_in fates passage) ≡ named_by plan passage.from passage.to passage.ordinal
+  pub named : (passage : Passage) → option_map fate_of (named_in fates passage) ≡ named_by plan passage.route.from passage.route.to passage.ordinal
   pub others : fates.others ≡ first_or (filter_map times_for_all plan) 1
 
 -- one output has another fate now, and all else stays

@@ -1,4 +1,5 @@
 pub mod Netbook
 pub mod Places
-pub mod Served
+pub mod Routes
+pub mod Outputs
 pub mod Fates

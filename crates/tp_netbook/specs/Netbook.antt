@@ -1,34 +1,32 @@
 -- What a netbook keeps of a journal, and which steps it says may come next.
-use Rattle.std.specs.Prelude.{ℕ, ◌≡◌, ◌≢◌, ◌+◌, ◌^◌, ◌<◌, ◌&&◌, ◌||◌, not, nat_le, nat_lt, is_none, Bool, true, false, cond, List, Option, Some, None, filter, filter_map, length, map, reverse, slice_get}
+use Rattle.std.specs.Prelude.{ℕ, ◌≡◌, ◌≢◌, ◌+◌, ◌^◌, ◌<◌, ◌&&◌, not, nat_le, nat_lt, is_none, Bool, true, false, cond, List, [], ◌∷◌, ◌++◌, Option, Some, None, filter, filter_map, length, map, reverse, slice_get}
 use Rattle.std.specs.List.{zip}
 use Rattle.tp_base.specs.declared.names.ActorName.{ActorName}
 use Rattle.tp_base.specs.declared.names.ActorName.TheVariants.{Process, Executor, Session}
 use Rattle.tp_base.specs.declared.names.Site.{Site}
+use Rattle.tp_netbook.specs.Fates.{AreFates}
+use Rattle.tp_netbook.specs.Outputs.{event_of, new_output, output_of}
 use Rattle.tp_netbook.specs.Places.{place_of_site}
+use Rattle.tp_netbook.specs.Routes.{AreCounts, route_of, same_route}
 use Rattle.tp_netbook.specs.declared.line.Line.{Line}
 use Rattle.tp_netbook.specs.declared.netbook.Netbook.{Netbook}
 use Rattle.tp_netbook.specs.declared.output.Output.{Output}
 use Rattle.tp_netbook.specs.declared.watch.Watch.{Watch}
-use Rattle.tp_base.specs.Names.{same_name}
-use Rattle.tp_rules.specs.Journal.{acts, identity_in, is_crash, is_delivery_of, is_live, numbered, sent}
+use Rattle.tp_rules.specs.Journal.{acts, identity_in, is_crash, is_live, sent}
 use Rattle.tp_rules.specs.Pending.{actors_of, inner_item, item, sites_of}
-use Rattle.tp_rules.specs.Plan.{Planned, deliveries_left, entries_of, is_planned, plan_of}
+use Rattle.tp_rules.specs.Plan.{Planned, deliveries_left, entries_of, fate_by, is_planned, plan_of}
 use Rattle.tp_rules.specs.Rules.{enabled}
 use Rattle.tp_rules.specs.declared.event.Entry.{Entry}
 use Rattle.tp_rules.specs.declared.event.Event.{Event}
-use Rattle.tp_rules.specs.declared.event.Event.TheVariants.{Deliver}
 use Rattle.tp_rules.specs.declared.event.Inner.{Inner}
 use Rattle.tp_rules.specs.declared.event.Item.{Item}
 use Rattle.tp_rules.specs.declared.event.Parcel.{Parcel}
+use Rattle.tp_script.specs.declared.script.PlanLine.{PlanLine}
 use Rattle.tp_script.specs.declared.script.Script.{Script}
-use Rattle.tp_wire.specs.declared.message.Message.{Message}
 
--- the outputs that may still be delivered, in the order in which they were sent: to actors that live
+-- the outputs that may still be delivered or lost, in the order in which they were sent: to actors that live
 unfoldable pub outputs_left : Script → List Entry → List Parcel
 outputs_left script older = filter (λ p. is_live older p.message.to && nat_lt 0 (deliveries_left script older p)) (sent older)
-
-abbrev pub output_of : Parcel → Output
-output_of p = record { entry = p.entry; place = p.place; to = p.message.to }
 
 -- a line of a netbook as the plan has it
 abbrev pub planned_of : Line → Planned
@@ -52,7 +50,9 @@ pub record IsNetbook (script : Script) (journal : List Entry) (book : Netbook) :
   pub topology : book.topology ≡ script.topology
   pub sites : AreWatches script (reverse journal) book.sites.items
   pub roster : book.roster.items ≡ actors_of script
-  pub waiting : book.waiting.items ≡ map output_of (outputs_left script (reverse journal))
+  pub fates : AreFates script.plan book.fates
+  pub routes : AreCounts (sent (reverse journal)) book.routes
+  pub waiting : book.waiting.items ≡ map (output_of script (reverse journal)) (outputs_left script (reverse journal))
   pub entries : book.entries ≡ length journal
 
 -- the step of its own that each actor of the script may make, in their order
@@ -100,11 +100,8 @@ is_free book a = is_alive book a && is_undue book a
 abbrev pub lines : Netbook → List Item
 lines book = filter_map line_item book.sites.items
 
-abbrev pub delivery_of : Output → Item
-delivery_of o = item o.to (Deliver o.entry o.place)
-
 abbrev pub delivery_item : Netbook → Output → Option Item
-delivery_item book o = cond (is_free book o.to) (Some (delivery_of o)) None
+delivery_item book o = cond (is_free book o.to) (Some (item o.to (event_of o))) None
 
 abbrev pub deliveries : Netbook → List Item
 deliveries book = filter_map (delivery_item book) book.waiting.items
@@ -116,16 +113,6 @@ abbrev pub own_items : Netbook → List (Option Inner) → List Item
 own_items book next = filter_map (own_item book) (zip book.roster.items next)
 
 -- how an entry changes it
-
--- whether by an event of one actor the site of another crashes
-abbrev pub crashes : ActorName → Event → ActorName → Bool
-crashes actor event (Process s) = same_name actor (Process s) && is_crash event
-crashes actor event (Executor s) = same_name actor (Process s) && is_crash event
-crashes actor event (Session s) = false
-
--- an output that is delivered, or whose addressee crashes
-abbrev pub is_settled : ActorName → Event → Output → Bool
-is_settled actor event o = is_delivery_of o.entry o.place event || crashes actor event o.to
 
 -- a watch before and after an event of its process
 pub record IsCounted (event : Event) (before after : Watch) : Type 0 where
@@ -146,6 +133,28 @@ pub record AreCounted (actor : ActorName) (event : Event) (book : Netbook) (befo
   pub many : length after ≡ length before
   pub each : (k : ℕ) (w' : Watch) → slice_get after k ≡ Some w' → (w : Watch) × (slice_get before k ≡ Some w) × IsCountedAt actor event book k w w'
 
--- the outputs of an entry that wait from then on
-abbrev pub new_outputs : Netbook → ℕ → List Message → List Output
-new_outputs book entry outputs = filter (λ o. is_alive book o.to) (map output_of (numbered entry 1 outputs))
+-- all stays but what waits and the counts of the routes
+pub record KeepsRest (old new : Netbook) : Type 0 where
+  pub topology : new.topology ≡ old.topology
+  pub sites : new.sites ≡ old.sites
+  pub roster : new.roster ≡ old.roster
+  pub fates : new.fates ≡ old.fates
+  pub entries : new.entries ≡ old.entries
+
+-- the number of an output between its two actors, after those sent before
+abbrev pub next_number : List Parcel → Parcel → ℕ
+next_number before p = length (filter (λ q. same_route (route_of q) (route_of p)) before) + 1
+
+-- an output as it is added, with the fate that its number has
+abbrev pub added : List PlanLine → List Parcel → Parcel → Output
+added plan before p = new_output p.entry p.place p.message.to (fate_by plan p.message.from p.message.to (next_number before p))
+
+-- the outputs that wait from then on, of those that are sent after others: to actors that live
+abbrev pub new_outputs : List PlanLine → (ActorName → Bool) → List Parcel → List Parcel → List Output
+new_outputs plan alive before [] = []
+new_outputs plan alive before (p ∷ ps) = cond (alive p.message.to) (added plan before p ∷ []) [] ++ new_outputs plan alive (before ++ p ∷ []) ps
+
+-- outputs are counted and added
+abbrev pub Adds : List Parcel → Netbook → Netbook → Type 0
+Adds ps old new = (plan : List PlanLine) (before : List Parcel) → AreFates plan old.fates → AreCounts before old.routes → length before + length ps < 2 ^ 128
+    → (new.waiting.items ≡ old.waiting.items ++ new_outputs plan (is_alive old) before ps) × AreCounts (before ++ ps) new.routes

@@ -4,6 +4,7 @@ ghost use Rattle.tp_netbook.specs.declared.fate.Fate.{Fate};
 ghost use Rattle.tp_rules.specs.Plan.{fate_by};
 ghost use Rattle.tp_script.specs.declared.script.PlanLine.{PlanLine as LineValue};
 
+use crate::route::Route;
 use indexmap::IndexMap;
 use std::alloc::Global;
 use tp_base::{ActorName, NoMemory};
@@ -19,18 +20,16 @@ pub(crate) enum Fate {
 /// An output by its number among all outputs between two actors, from 1.
 #[derive(Clone, Copy, Debug, PartialEq, Eq, Hash)]
 pub(crate) struct Passage {
-    pub from: ActorName,
-    pub to: ActorName,
+    pub route: Route,
     pub ordinal: u128,
 }
 
 impl Passage {
     fn new(from: ActorName, to: ActorName, ordinal: u32) -> Passage
-        ensures { result ≡ record { from = from; to = to; ordinal = ordinal } }
+        ensures { result ≡ record { route = record { from = from; to = to }; ordinal = ordinal } }
     {
         Passage {
-            from,
-            to,
+            route: Route { from, to },
             ordinal: ordinal as u128,
         }
     }
@@ -60,7 +59,7 @@ impl Fates {
 
     /// The fate of an output.
     pub(crate) fn of(&self, passage: Passage) -> Fate
-        ensures { (plan : List LineValue) → AreFates plan self.now → fate_of result ≡ fate_by plan passage.from passage.to passage.ordinal }
+        ensures { (plan : List LineValue) → AreFates plan self.now → fate_of result ≡ fate_by plan passage.route.from passage.route.to passage.ordinal }
     {
         match self.named.get(&passage) {
             Some(fate) => *fate,

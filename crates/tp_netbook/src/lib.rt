@@ -7,9 +7,8 @@ mod line;
 mod netbook;
 mod output;
 mod roster;
-mod served;
+mod route;
 mod watch;
 
 pub use netbook::Netbook;
 pub use roster::place_of;
-pub use served::is_served;

@@ -1,23 +1,27 @@
 ghost use Rattle.std.specs.Option.{option_copied};
 ghost use Rattle.std.specs.Prelude.{◌≡◌, ◌<◌, ◌+◌, ◌^◌, ◌++◌, ◌∷◌, [], List, filter, not, length, reverse, slice_get, IfOk, OnOk};
-ghost use Rattle.tp_netbook.specs.Netbook.{AreCounted, AreNext, AreWatches, IsNetbook, crashes, deliveries, delivery_item, is_alive, is_free, is_settled, is_undue, lines, new_outputs, own_item, own_items, watch_of};
-ghost use Rattle.tp_netbook.specs.Served.{IsServed};
-ghost use Rattle.tp_rules.specs.Journal.{is_delivery_of};
+ghost use Rattle.std.specs.List.{retain_mut};
+ghost use Rattle.tp_netbook.specs.Netbook.{Adds, AreCounted, AreNext, AreWatches, IsNetbook, KeepsRest, deliveries, delivery_item, is_alive, is_free, is_undue, lines, own_item, own_items, watch_of};
+ghost use Rattle.tp_netbook.specs.Outputs.{passed, waits};
+ghost use Rattle.tp_rules.specs.Journal.{numbered};
 ghost use Rattle.tp_rules.specs.Pending.{pending, sites_of};
 ghost use Rattle.tp_rules.specs.Runs.{IsRun};
 ghost use Rattle.tp_rules.specs.declared.event.Entry.{Entry as EntryValue};
 ghost use Rattle.tp_script.specs.Accepted.{IsAccepted};
 ghost use Rattle.tp_script.specs.declared.script.Script.{Script as ScriptValue};
 
+use crate::fate::{Fates, Passage};
 use crate::line::lines_of;
 use crate::output::Output;
 use crate::roster::{place_of_site, roster, sites_of};
+use crate::route::{Route, Routes};
 use crate::watch::Watch;
 use std::alloc::Global;
 use tp_base::{ActorName, NoMemory, Site};
 use tp_rules::{Entry, Event, Inner, Item, Outputs};
 use tp_script::Script;
 use tp_topology::Topology;
+use tp_wire::Message;
 
 /// What may come next after a journal, in the order of the pending list.
 #[derive(Debug, Drop)]
@@ -25,6 +29,8 @@ pub struct Netbook {
     topology: Topology,
     sites: Vec<Watch>,
     roster: Vec<ActorName>,
+    fates: Fates,
+    routes: Routes,
     waiting: Vec<Output>,
     entries: u64,
 }
@@ -40,6 +46,8 @@ impl Netbook {
             topology: script.topology,
             roster: roster(alloc, script, sites.as_slice())?,
             sites: watches(alloc, script, sites.as_slice())?,
+            fates: Fates::new(alloc, script.plan.as_slice())?,
+            routes: Routes::new(alloc),
             waiting: Vec::new(alloc),
             entries: 0,
         })
@@ -47,7 +55,7 @@ impl Netbook {
 
     /// How many steps may come next.
     pub fn pending(&self, next: &[Option<Inner>]) -> u64
-        ensures { (script : ScriptValue) (journal : List EntryValue) → IsNetbook script journal self.now → IsServed script → IsRun script journal → AreNext script journal next.now → result ≡ length (pending script (reverse journal)) }
+        ensures { (script : ScriptValue) (journal : List EntryValue) → IsNetbook script journal self.now → IsAccepted script → IsRun script journal → AreNext script journal next.now → result ≡ length (pending script (reverse journal)) }
     {
         let all = self
             .count_lines()
@@ -58,7 +66,7 @@ impl Netbook {
 
     /// One of the steps that may come next, counted from 0.
     pub fn item(&self, next: &[Option<Inner>], index: u64) -> Option<Item>
-        ensures { (script : ScriptValue) (journal : List EntryValue) → IsNetbook script journal self.now → IsServed script → IsRun script journal → AreNext script journal next.now → result ≡ slice_get (pending script (reverse journal)) index }
+        ensures { (script : ScriptValue) (journal : List EntryValue) → IsNetbook script journal self.now → IsAccepted script → IsRun script journal → AreNext script journal next.now → result ≡ slice_get (pending script (reverse journal)) index }
     {
         let index = index as usize;
         if let Some(line) = self.line(index) {
@@ -74,7 +82,7 @@ impl Netbook {
 
     /// Takes the next entry of the journal. After an error the netbook isn't used again.
     pub fn entered(&mut self, entry: &Entry) -> Result<(), NoMemory>
-        ensures { OnOk result ((script : ScriptValue) (journal : List EntryValue) → IsNetbook script journal self.old → IsServed script → IsRun script (journal ++ entry.now ∷ []) → length journal + 1 < 2 ^ 64 → IsNetbook script (journal ++ entry.now ∷ []) self.new) }
+        ensures { OnOk result ((script : ScriptValue) (journal : List EntryValue) → IsNetbook script journal self.old → IsAccepted script → IsRun script (journal ++ entry.now ∷ []) → length journal + 1 < 2 ^ 64 → IsNetbook script (journal ++ entry.now ∷ []) self.new) }
     {
         self.settle(entry.actor, entry.event);
         self.count(entry.actor, entry.event);
@@ -166,7 +174,7 @@ impl Netbook {
         None
     }
 
-    /// The delivery of an output whose addressee is free.
+    /// The delivery or the loss of an output whose addressee is free.
     fn delivery_item(&self, output: &Output) -> Option<Item>
         ensures { result ≡ delivery_item self.now output.now }
     {
@@ -175,10 +183,7 @@ impl Netbook {
         }
         Some(Item {
             actor: output.to,
-            event: Event::Deliver {
-                entry: output.entry,
-                place: output.place,
-            },
+            event: output.event(),
         })
     }
 
@@ -220,16 +225,13 @@ impl Netbook {
         })
     }
 
-    /// Takes out the outputs that an event settles.
+    /// Lets an event pass by the outputs that wait, and takes out those that it settles.
     fn settle(&mut self, actor: ActorName, event: Event)
-        ensures waiting { self.new.waiting.items ≡ filter (λ o. not (is_settled actor event o)) self.old.waiting.items }
-        ensures topology { self.new.topology ≡ self.old.topology }
-        ensures sites { self.new.sites ≡ self.old.sites }
-        ensures roster { self.new.roster ≡ self.old.roster }
-        ensures entries { self.new.entries ≡ self.old.entries }
+        ensures waiting { self.new.waiting.items ≡ retain_mut (λ o. waits actor event (passed event o)) (passed event) self.old.waiting.items }
+        ensures rest { KeepsRest self.old self.new }
+        ensures routes { self.new.routes ≡ self.old.routes }
     {
-        self.waiting
-            .retain(|output| !is_settled(actor, event, output));
+        self.waiting.retain_mut(|output| output.take(actor, event));
     }
 
     /// Counts an entry at the watch of its process.
@@ -238,6 +240,8 @@ impl Netbook {
         ensures topology { self.new.topology ≡ self.old.topology }
         ensures waiting { self.new.waiting ≡ self.old.waiting }
         ensures roster { self.new.roster ≡ self.old.roster }
+        ensures fates { self.new.fates ≡ self.old.fates }
+        ensures routes { self.new.routes ≡ self.old.routes }
         ensures entries { self.new.entries ≡ self.old.entries }
     {
         let ActorName::Process(site) = actor else {
@@ -249,23 +253,29 @@ impl Netbook {
         }
     }
 
-    /// Adds the outputs of the newest entry whose addressees live.
+    /// Adds the outputs of the newest entry.
     fn add(&mut self, outputs: &Outputs) -> Result<(), NoMemory>
-        ensures waiting { OnOk result (self.new.waiting.items ≡ self.old.waiting.items ++ new_outputs self.old self.old.entries outputs.now) }
-        ensures topology { OnOk result (self.new.topology ≡ self.old.topology) }
-        ensures sites { OnOk result (self.new.sites ≡ self.old.sites) }
-        ensures roster { OnOk result (self.new.roster ≡ self.old.roster) }
-        ensures entries { OnOk result (self.new.entries ≡ self.old.entries) }
+        ensures adds { OnOk result (Adds (numbered self.old.entries 1 outputs.now) self.old self.new) }
+        ensures rest { OnOk result (KeepsRest self.old self.new) }
     {
         for i in 0..outputs.len() {
-            let to = outputs.as_slice()[i].to;
-            if self.is_alive(to) {
-                self.waiting.push(Output {
-                    entry: self.entries,
-                    place: i as u64 + 1,
-                    to,
-                })?;
-            }
+            self.add_output(i as u64 + 1, &outputs.as_slice()[i])?;
+        }
+        Ok(())
+    }
+
+    /// Counts an output, and lets it wait where its addressee lives.
+    fn add_output(&mut self, place: u64, message: &Message) -> Result<(), NoMemory>
+        ensures adds { OnOk result (Adds (record { entry = self.old.entries; place = place; message = message.now } ∷ []) self.old self.new) }
+        ensures rest { OnOk result (KeepsRest self.old self.new) }
+    {
+        let (from, to) = (message.from, message.to);
+        let route = Route { from, to };
+        let ordinal = self.routes.count(route)?;
+        if self.is_alive(to) {
+            let fate = self.fates.of(Passage { route, ordinal });
+            self.waiting
+                .push(Output::new(self.entries, place, to, fate))?;
         }
         Ok(())
     }
@@ -287,32 +297,4 @@ fn watches(alloc: Global, script: &Script, sites: &[Site]) -> Result<Vec<Watch>,
         })?;
     }
     Ok(watches)
-}
-
-/// Whether an event delivers an output, or its addressee crashes by it.
-fn is_settled(actor: ActorName, event: Event, output: &Output) -> bool
-    ensures { result ≡ is_settled actor event output.now }
-{
-    is_delivery(event, output) || crashes(actor, event, output.to)
-}
-
-fn is_delivery(event: Event, output: &Output) -> bool
-    ensures { result ≡ is_delivery_of output.now.entry output.now.place event }
-{
-    match event {
-        Event::Deliver { entry, place } => entry == output.entry && place == output.place,
-        Event::Dropped { entry: _, place: _ } | Event::Inner(_) => false,
-    }
-}
-
-/// Whether by an event of one actor the site of another crashes.
-fn crashes(actor: ActorName, event: Event, other: ActorName) -> bool
-    ensures { result ≡ crashes actor event other }
-{
-    match other {
-        ActorName::Process(site) | ActorName::Executor(site) => {
-            actor == ActorName::Process(site) && event == Event::Inner(Inner::Crash)
-        }
-        ActorName::Session(_) => false,
-    }
 }

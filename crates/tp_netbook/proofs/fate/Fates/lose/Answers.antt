@@ -1,7 +1,7 @@
 use Rattle.std.proofs.Common.{◌≡◌, Bool, Some, refl, subst}
 use Rattle.std.specs.Prelude.{cond}
 use Rattle.indexmap.specs.IndexMap.{get}
-use Rattle.tp_netbook.proofs.SamePassages.{same_by_code}
+use Rattle.tp_netbook.proofs.SameRoutes.{passage_by_code}
 use Rattle.tp_netbook.proofs.fate.Fates.lose.Goals as goal
 use Rattle.tp_netbook.specs.declared.fate.Fate.TheVariants.{Lost}
 use Rattle.tp_netbook.specs.declared.fate.Passage.{Passage}
@@ -9,6 +9,6 @@ use Rattle.tp_netbook.specs.declared.fate.Passage.{Passage}
 pub returns : goal.returns
 returns c = record {
   named = λ other. subst (λ (same : Passage → Passage → Bool). get same c.insert.new.self other ≡
-      cond (same c.args.passage other) (Some Lost) (get same c.args.self.now.named other)) same_by_code (c.in_ok-insert.ensures.updates.0 other);
+      cond (same c.args.passage other) (Some Lost) (get same c.args.self.now.named other)) passage_by_code (c.in_ok-insert.ensures.updates.0 other);
   others = refl;
 }

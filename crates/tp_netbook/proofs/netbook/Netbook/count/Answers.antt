@@ -11,6 +11,8 @@ returns-in_default c = record {
   topology = refl;
   waiting = refl;
   roster = refl;
+  fates = refl;
+  routes = refl;
   entries = refl;
 }
 

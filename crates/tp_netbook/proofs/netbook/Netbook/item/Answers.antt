@@ -4,20 +4,20 @@ use Rattle.tp_netbook.specs.Netbook.{deliveries, lines}
 use Rattle.tp_netbook.proofs.netbook.Netbook.item.Goals as goal
 
 pub returns-in-Some : goal.returns-in-Some
-returns-in-Some c = λ script journal is served run are.
-    line_step script journal c.args.self.now is served run c.args.next.now are c.args.index c.in-Some.line (sym c.in-Some.is ∙ c.line.ensures)
+returns-in-Some c = λ script journal is accepted run are.
+    line_step script journal c.args.self.now is accepted run c.args.next.now are c.args.index c.in-Some.line (sym c.in-Some.is ∙ c.line.ensures)
 
 pub returns-in-Some-delivery : goal.returns-in-Some-delivery
-returns-in-Some-delivery c = λ script journal is served run are.
+returns-in-Some-delivery c = λ script journal is accepted run are.
     let past : length (lines c.args.self.now) ≤ c.args.index = beyond (lines c.args.self.now) c.args.index c.line.result c.line.ensures c.in_default.not-Some in
-    delivery_step script journal c.args.self.now is served run c.args.next.now are c.args.index c.saturating_sub-index.result c.in-Some-delivery.delivery past
+    delivery_step script journal c.args.self.now is accepted run c.args.next.now are c.args.index c.saturating_sub-index.result c.in-Some-delivery.delivery past
     (c.saturating_sub-index.ensures ∙ ap (λ (n : ℕ). c.args.index - n) c.count_lines.ensures) (sym c.in-Some-delivery.is ∙ c.delivery.ensures)
 
 pub returns : goal.returns
-returns c = λ script journal is served run are.
+returns c = λ script journal is accepted run are.
     let past : length (lines c.args.self.now) ≤ c.args.index = beyond (lines c.args.self.now) c.args.index c.line.result c.line.ensures c.in_default.not-Some in
     let past' : length (deliveries c.args.self.now) ≤ c.saturating_sub-index.result =
     beyond (deliveries c.args.self.now) c.saturating_sub-index.result c.delivery.result c.delivery.ensures c.in_default-delivery.not-Some in
-    own_step script journal c.args.self.now is served run c.args.next.now are c.args.index c.saturating_sub-index.result c.saturating_sub-index-2.result c.own.result past
+    own_step script journal c.args.self.now is accepted run c.args.next.now are c.args.index c.saturating_sub-index.result c.saturating_sub-index-2.result c.own.result past
     (c.saturating_sub-index.ensures ∙ ap (λ (n : ℕ). c.args.index - n) c.count_lines.ensures) past'
     (c.saturating_sub-index-2.ensures ∙ ap (λ (n : ℕ). c.saturating_sub-index.result - n) c.count_deliveries.ensures.count) c.own.ensures

@@ -2,6 +2,6 @@ use Rattle.tp_netbook.proofs.Steps.{all_counted}
 use Rattle.tp_netbook.proofs.netbook.Netbook.pending.Goals as goal
 
 pub returns : goal.returns
-returns c = λ script journal is served run are.
-    all_counted script journal c.args.self.now is served run c.args.next.now are c.count_lines.result c.count_deliveries.result c.count_own.result _ _
+returns c = λ script journal is accepted run are.
+    all_counted script journal c.args.self.now is accepted run c.args.next.now are c.count_lines.result c.count_deliveries.result c.count_own.result _ _
     c.count_lines.ensures c.count_deliveries.ensures.count c.count_own.ensures c.count_deliveries.ensures.few c.saturating_add.ensures c.saturating_add-all.ensures

@@ -1,0 +1,54 @@
+-- What a netbook keeps of an output that may still be delivered or lost, and what an event does to it.
+use Rattle.std.specs.Prelude.{ℕ, ◌-◌, ◌==◌, ◌&&◌, not, nat_lt, Bool, true, false, cond, List}
+use Rattle.tp_base.specs.Names.{same_name}
+use Rattle.tp_base.specs.declared.names.ActorName.{ActorName}
+use Rattle.tp_base.specs.declared.names.ActorName.TheVariants.{Process, Executor, Session}
+use Rattle.tp_netbook.specs.declared.output.Output.{Output}
+use Rattle.tp_rules.specs.Journal.{is_crash}
+use Rattle.tp_rules.specs.Plan.{Fate, Lost, Times, deliveries_left, fate_of, left_by}
+use Rattle.tp_rules.specs.declared.event.Entry.{Entry}
+use Rattle.tp_rules.specs.declared.event.Event.{Event}
+use Rattle.tp_rules.specs.declared.event.Event.TheVariants.{Deliver, Dropped, Inner as OfItself}
+use Rattle.tp_rules.specs.declared.event.Parcel.{Parcel}
+use Rattle.tp_script.specs.declared.script.Script.{Script}
+
+abbrev pub loses : Fate → Bool
+loses Lost = true
+loses (Times n) = false
+
+abbrev pub output_of : Script → List Entry → Parcel → Output
+output_of script older p = record {
+  entry = p.entry;
+  place = p.place;
+  to = p.message.to;
+  lost = loses (fate_of script older p);
+  left = deliveries_left script older p;
+}
+
+-- one that was just sent
+abbrev pub new_output : ℕ → ℕ → ActorName → Fate → Output
+new_output entry place to fate = record { entry = entry; place = place; to = to; lost = loses fate; left = left_by fate 0 false }
+
+-- what may come next of it
+abbrev pub event_of : Output → Event
+event_of o = cond o.lost (Dropped o.entry o.place) (Deliver o.entry o.place)
+
+-- whether an event delivers it, or loses it, as its fate says
+abbrev pub is_named : Event → Output → Bool
+is_named (Deliver entry place) o = not o.lost && ((entry == o.entry) && (place == o.place))
+is_named (Dropped entry place) o = o.lost && ((entry == o.entry) && (place == o.place))
+is_named (OfItself inner) o = false
+
+-- an output after an event
+abbrev pub passed : Event → Output → Output
+passed event o = record { entry = o.entry; place = o.place; to = o.to; lost = o.lost; left = cond (is_named event o) (o.left - 1) o.left }
+
+-- whether by an event of one actor the site of another crashes
+abbrev pub crashes : ActorName → Event → ActorName → Bool
+crashes actor event (Process s) = same_name actor (Process s) && is_crash event
+crashes actor event (Executor s) = same_name actor (Process s) && is_crash event
+crashes actor event (Session s) = false
+
+-- whether an output still waits after an event
+abbrev pub waits : ActorName → Event → Output → Bool
+waits actor event o = nat_lt 0 o.left && not (crashes actor event o.to)
