@@ -15,7 +15,7 @@ use Rattle.tp_driver.specs.Driving.{IsChosen, IsDriven, IsOneMore, IsPickOf, May
 use Rattle.tp_netbook.proofs.Places.{get_place, place_get}
 use Rattle.tp_netbook.specs.Netbook.{AreNext}
 use Rattle.tp_netbook.specs.Places.{place_of}
-use Rattle.tp_netbook.specs.Served.{IsServed}
+use Rattle.tp_script.specs.Accepted.{IsAccepted}
 use Rattle.tp_rules.proofs.Histories.{free_history}
 use Rattle.tp_rules.proofs.InRange.{sent_in_range}
 use Rattle.tp_rules.proofs.Journals.{acts_other, picked_run_more, picked_run_none, run_more, run_none}
@@ -105,7 +105,7 @@ module _ (script : Script) (journal : List Entry) where
 
 -- the step that is chosen
 
-module _ (script : Script) (served : IsServed script) (journal : List Entry) (run : IsRun script journal) where
+module _ (script : Script) (accepted : IsAccepted script) (journal : List Entry) (run : IsRun script journal) where
   history : IsHistory script (reverse journal)
   unfolding IsRun
   history = run
@@ -116,18 +116,18 @@ module _ (script : Script) (served : IsServed script) (journal : List Entry) (ru
   -- a message that was sent is in the wire's ranges
   pub in_range : (entry place : ℕ) (m : Message) → output_at (reverse journal) entry place ≡ Some m → IsInRange m
   in_range entry place m at =
-      each_in (λ (q : Parcel). IsInRange q.message) (sent (reverse journal)) (parcel entry place m) (sent_in_range script served.accepted (reverse journal) free)
+      each_in (λ (q : Parcel). IsInRange q.message) (sent (reverse journal)) (parcel entry place m) (sent_in_range script accepted (reverse journal) free)
       (output_sent (reverse journal) entry place m at)
 
   module _ (it : Item) (pick : IsPickOf script journal it) where
     pub may_come : MayCome script journal it
     may_come =
-        let may = pending_may script served.accepted (reverse journal) free it (in_get (pending script (reverse journal)) (index_next script (reverse journal)) it pick) in
+        let may = pending_may script accepted (reverse journal) free it (in_get (pending script (reverse journal)) (index_next script (reverse journal)) it pick) in
         record { known = may.0; may = may.1 }
 
     module _ (e : Entry) (actor : e.actor ≡ it.actor) (event : e.event ≡ it.event) (outputs : e.outputs ≡ outputs_in script (reverse journal) it.actor it.event) where
       legal : IsLegal script (reverse journal) e
-      legal = pending_legal script served.accepted (reverse journal) free it (in_get (pending script (reverse journal)) (index_next script (reverse journal)) it pick) e actor event outputs
+      legal = pending_legal script accepted (reverse journal) free it (in_get (pending script (reverse journal)) (index_next script (reverse journal)) it pick) e actor event outputs
 
       pub run_now : IsRun script (journal ++ e ∷ [])
       run_now = run_more script journal e run legal
@@ -141,9 +141,9 @@ module _ (script : Script) (served : IsServed script) (journal : List Entry) (ru
         picked = picked_run_more script journal e driven.picked (record { item = pick ∙ ap (λ (x : Item). Some x) same_item; outputs = legal.rules.outputs });
       }
 
-pub falls : (script : Script) → IsServed script → (journal after : List Entry) → IsRun script after → IsOneMore journal after → left script (reverse after) < left script (reverse journal)
-falls script served journal after run more = subst (λ l. left script (reverse l) < left script (reverse journal)) (sym more.1)
-    (left_after script served.accepted journal more.0 (subst (IsRun script) more.1 run))
+pub falls : (script : Script) → IsAccepted script → (journal after : List Entry) → IsRun script after → IsOneMore journal after → left script (reverse after) < left script (reverse journal)
+falls script accepted journal after run more = subst (λ l. left script (reverse l) < left script (reverse journal)) (sym more.1)
+    (left_after script accepted journal more.0 (subst (IsRun script) more.1 run))
 
 -- the steps of their own that the actors may make, after one more entry
 

@@ -1,7 +1,7 @@
 ghost use Rattle.std.specs.Prelude.{◌≡◌, ◌<◌, ◌^◌, length, slice_get, unwrap_or};
 ghost use Rattle.tp_driver.specs.Driving.{IsChosen};
 ghost use Rattle.tp_netbook.specs.Netbook.{AreNext, IsNetbook};
-ghost use Rattle.tp_netbook.specs.Served.{IsServed};
+ghost use Rattle.tp_script.specs.Accepted.{IsAccepted};
 ghost use Rattle.tp_rules.specs.Runs.{IsRun};
 
 use tp_journal::Journal;
@@ -16,7 +16,7 @@ pub fn choose(
     netbook: &Netbook,
     next: &[Option<Inner>],
 ) -> Option<Item>
-    requires served { IsServed script.now }
+    requires accepted { IsAccepted script.now }
     requires run { IsRun script.now journal.now }
     requires netbook { IsNetbook script.now journal.now netbook.now }
     requires next { AreNext script.now journal.now next.now }

@@ -2,7 +2,7 @@ ghost use Rattle.std.specs.Prelude.{◌≡◌, ◌<◌, ◌++◌, ◌∷◌, [],
 ghost use Rattle.tp_driver.specs.Cast.{AllStand};
 ghost use Rattle.tp_driver.specs.Driving.{IsDriven, MayCome};
 ghost use Rattle.tp_netbook.specs.Netbook.{AreNext, IsNetbook};
-ghost use Rattle.tp_netbook.specs.Served.{IsServed};
+ghost use Rattle.tp_script.specs.Accepted.{IsAccepted};
 ghost use Rattle.tp_rules.specs.Left.{left};
 ghost use Rattle.tp_rules.specs.Pending.{IsQuiet};
 ghost use Rattle.tp_rules.specs.Runs.{IsRun, outputs_in};
@@ -26,7 +26,7 @@ pub fn drive<A: Actor>(
     journal: &mut Journal,
     actors: &mut [A],
 ) -> Result<(), NoMemory>
-    requires served { IsServed script.now }
+    requires accepted { IsAccepted script.now }
     requires empty { journal.old ≡ [] }
     requires cast { AllStand A.identity_of A.is_spent A.stands script.now actors.old journal.old }
     ensures driven { IsDriven script.now journal.new }
@@ -59,7 +59,7 @@ fn turn<A: Actor>(
     actors: &mut [A],
     next: &mut [Option<Inner>],
 ) -> Result<bool, NoMemory>
-    requires served { IsServed script.now }
+    requires accepted { IsAccepted script.now }
     requires driven { IsDriven script.now journal.old }
     requires netbook { IsNetbook script.now journal.old netbook.old }
     requires cast { AllStand A.identity_of A.is_spent A.stands script.now actors.old journal.old }
@@ -97,7 +97,7 @@ fn act<A: Actor>(
     actors: &mut [A],
     item: Item,
 ) -> Result<Outputs, NoMemory>
-    requires served { IsServed script.now }
+    requires accepted { IsAccepted script.now }
     requires run { IsRun script.now journal.now }
     requires cast { AllStand A.identity_of A.is_spent A.stands script.now actors.old journal.now }
     requires may { MayCome script.now journal.now item }
@@ -123,7 +123,7 @@ fn deliver<A: Actor>(
     entry: u64,
     place: u64,
 ) -> Result<Outputs, NoMemory>
-    requires served { IsServed script.now }
+    requires accepted { IsAccepted script.now }
     requires run { IsRun script.now journal.now }
     requires cast { AllStand A.identity_of A.is_spent A.stands script.now actors.old journal.now }
     requires may { MayCome script.now journal.now (record { actor = to; event = Deliver entry place }) }
@@ -148,7 +148,7 @@ fn fire<A: Actor>(
     name: ActorName,
     inner: Inner,
 ) -> Result<Outputs, NoMemory>
-    requires served { IsServed script.now }
+    requires accepted { IsAccepted script.now }
     requires run { IsRun script.now journal.now }
     requires cast { AllStand A.identity_of A.is_spent A.stands script.now actors.old journal.now }
     requires may { MayCome script.now journal.now (record { actor = name; event = OfItself inner }) }

@@ -29,7 +29,7 @@ deliver-requires-clause-unspent g c =
 
 pub deliver-requires-clause-range : goal.deliver-requires-clause-range
 deliver-requires-clause-range g c =
-    in_range c.args.script.now c.requires.served c.args.journal.now c.requires.run c.args.entry c.args.place c.in-Some.message.now
+    in_range c.args.script.now c.requires.accepted c.args.journal.now c.requires.run c.args.entry c.args.place c.in-Some.message.now
     (sym (output_is c.args.journal.now c.args.entry c.args.place) ∙ sym c.in-Some.ensures)
 
 pub returns-clause-outputs : goal.returns-clause-outputs

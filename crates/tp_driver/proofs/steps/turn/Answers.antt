@@ -15,32 +15,32 @@ pub returns-in_default-clause-quiet : goal.returns-in_default-clause-quiet
 returns-in_default-clause-quiet g c = λ still. quiet_where c.args.script.now c.args.journal.now c.in_default.ensures.chosen
 
 pub act-requires-clause-may : goal.act-requires-clause-may
-act-requires-clause-may g c = may_come c.args.script.now c.requires.served c.args.journal.now c.requires.driven.run c.in-Some.item c.in-Some.ensures.chosen
+act-requires-clause-may g c = may_come c.args.script.now c.requires.accepted c.args.journal.now c.requires.driven.run c.in-Some.item c.in-Some.ensures.chosen
 
 pub place_of-home-requires : goal.place_of-home-requires
-place_of-home-requires g c = (may_come c.args.script.now c.requires.served c.args.journal.now c.requires.driven.run c.in-Some.item c.in-Some.ensures.chosen).known
+place_of-home-requires g c = (may_come c.args.script.now c.requires.accepted c.args.journal.now c.requires.driven.run c.in-Some.item c.in-Some.ensures.chosen).known
 
 pub prove-unreachable-requires : goal.prove-unreachable-requires
 prove-unreachable-requires g c =
     let e : Entry = record { actor = c.in-Some.item.actor; event = c.in-Some.item.event; outputs = c.in_ok-outputs.outputs } in
     let inside : c.place_of-home.result < length c.act.new.actors =
     within g.A.Actor.identity_of g.A.Actor.is_spent g.A.Actor.stands c.args.script.now c.act.new.actors (c.args.journal.now ++ e ∷ []) (c.in_ok-outputs.ensures.cast e refl refl) c.in-Some.item.actor
-    (may_come c.args.script.now c.requires.served c.args.journal.now c.requires.driven.run c.in-Some.item c.in-Some.ensures.chosen).known c.place_of-home.result c.place_of-home.ensures in
+    (may_come c.args.script.now c.requires.accepted c.args.journal.now c.requires.driven.run c.in-Some.item c.in-Some.ensures.chosen).known c.place_of-home.result c.place_of-home.ensures in
     omega (arith, inside, c.if-prove.true)
 
 pub returns-clause-driven : goal.returns-clause-driven
 returns-clause-driven g c =
     let e : Entry = record { actor = c.in-Some.item.actor; event = c.in-Some.item.event; outputs = c.in_ok-outputs.outputs } in
     subst (IsDriven c.args.script.now) (sym c.in_ok-enter.ensures.entered)
-    (driven_more c.args.script.now c.requires.served c.args.journal.now c.requires.driven.run c.in-Some.item c.in-Some.ensures.chosen e refl refl c.in_ok-outputs.ensures.outputs c.requires.driven)
+    (driven_more c.args.script.now c.requires.accepted c.args.journal.now c.requires.driven.run c.in-Some.item c.in-Some.ensures.chosen e refl refl c.in_ok-outputs.ensures.outputs c.requires.driven)
 
 pub returns-clause-netbook : goal.returns-clause-netbook
 returns-clause-netbook g c =
     let e : Entry = record { actor = c.in-Some.item.actor; event = c.in-Some.item.event; outputs = c.in_ok-outputs.outputs } in
     let short : length c.args.journal.now + 1 < 2 ^ 64 = omega (arith, c.choose.ensures.short) in
     subst (λ j. IsNetbook c.args.script.now j c.entered.new.self) (sym c.in_ok-enter.ensures.entered)
-    (c.in_ok-entered.ensures c.args.script.now c.args.journal.now c.requires.netbook c.requires.served
-    (run_now c.args.script.now c.requires.served c.args.journal.now c.requires.driven.run c.in-Some.item c.in-Some.ensures.chosen e refl refl c.in_ok-outputs.ensures.outputs) short)
+    (c.in_ok-entered.ensures c.args.script.now c.args.journal.now c.requires.netbook c.requires.accepted
+    (run_now c.args.script.now c.requires.accepted c.args.journal.now c.requires.driven.run c.in-Some.item c.in-Some.ensures.chosen e refl refl c.in_ok-outputs.ensures.outputs) short)
 
 pub returns-clause-cast : goal.returns-clause-cast
 returns-clause-cast g c =
@@ -50,7 +50,7 @@ returns-clause-cast g c =
 pub returns-clause-next : goal.returns-clause-next
 returns-clause-next g c =
     let e : Entry = record { actor = c.in-Some.item.actor; event = c.in-Some.item.event; outputs = c.in_ok-outputs.outputs } in
-    let known = (may_come c.args.script.now c.requires.served c.args.journal.now c.requires.driven.run c.in-Some.item c.in-Some.ensures.chosen).known in
+    let known = (may_come c.args.script.now c.requires.accepted c.args.journal.now c.requires.driven.run c.in-Some.item c.in-Some.ensures.chosen).known in
     let there : slice_get (actors_of c.args.script.now) c.place_of-home.result ≡ Some c.in-Some.item.actor =
     ap (slice_get (actors_of c.args.script.now)) c.place_of-home.ensures ∙ get_place c.args.script.now c.in-Some.item.actor known in
     subst (λ j. AreNext c.args.script.now j (set c.args.next.now c.place_of-home.result c.next_inner.result)) (sym c.in_ok-enter.ensures.entered)
@@ -61,4 +61,4 @@ returns-clause-next g c =
 
 pub returns-clause-falls : goal.returns-clause-falls
 returns-clause-falls g c = λ went.
-    falls c.args.script.now c.requires.served c.args.journal.now c.enter.new.self (returns-clause-driven g c).run (_, c.in_ok-enter.ensures.entered)
+    falls c.args.script.now c.requires.accepted c.args.journal.now c.enter.new.self (returns-clause-driven g c).run (_, c.in_ok-enter.ensures.entered)
