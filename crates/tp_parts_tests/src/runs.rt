@@ -121,7 +121,7 @@ fn scripts_run_to_their_reports(rt: HostRuntime) -> Result<(), Fail> {
 
 #[test]
 fn texts_are_refused(rt: HostRuntime) -> Result<(), Fail> {
-    let cases: [(&[u8], &str); 13] = [
+    let cases: [(&[u8], &str); 11] = [
         (b"", "line 1: header"),
         (b"tempo 2\n", "line 1: newer"),
         (b"tempo 1\nshape 1 3 2\n", "line 2: shape"),
@@ -153,8 +153,6 @@ fn texts_are_refused(rt: HostRuntime) -> Result<(), Fail> {
             "line 4: limit 17 16",
         ),
         (b"tempo 1\nshape 2 3 1\nend\n\n", "line 4: word"),
-        (b"tempo 1\nshape 1 3 1\ndrop p1.1 p1.2 1\nend\n", "unbuilt"),
-        (b"tempo 1\nshape 1 3 1\nrepeat all 2\nend\n", "unbuilt"),
     ];
     for (text, wanted) in cases {
         let ended = call(rt.alloc(), &["step"], text, &[], &[])?;

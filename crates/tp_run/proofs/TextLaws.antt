@@ -1,11 +1,8 @@
 -- A whole text and its script: each is the other's.
-use Rattle.std.proofs.Common.{◌≡◌, ℕ, ◌+◌, ◌≤◌, ◌<◌, nat_le, nat_lt, take, min, Bool, true, false, List, [], ◌∷◌, ◌++◌, Option, Some, None, Result, Ok, Err, ◌⊎◌, inl, inr, refl, sym, subst, ◌∙◌, ap, arith, length, append-nil, not}
+use Rattle.std.proofs.Common.{◌≡◌, ℕ, ◌+◌, ◌≤◌, ◌<◌, nat_le, nat_lt, take, min, Bool, true, false, List, [], ◌∷◌, ◌++◌, Some, None, Result, Ok, Err, refl, sym, subst, ◌∙◌, ap, arith, length, append-nil}
 use Rattle.std.proofs.lemmas.List.{length-take, take_all}
-use Rattle.std.specs.List.{list_any}
-use Rattle.tp_netbook.specs.Served.{IsServed, is_of_messages}
-use Rattle.tp_run.specs.declared.finished.Cause.{Cause}
-use Rattle.tp_run.specs.declared.finished.Cause.TheVariants.{Script as Faulty, Input, Unbuilt}
-use Rattle.tp_run.specs.Texts.{INPUT_MOST, IsTextOf, cause_of, cause_of_read, is_built, is_end, read_to_end, script_of}
+use Rattle.tp_run.specs.declared.finished.Cause.TheVariants.{Script as Faulty, Input}
+use Rattle.tp_run.specs.Texts.{INPUT_MOST, IsTextOf, cause_of, cause_of_read, is_end, read_to_end, script_of}
 use Rattle.tp_script.proofs.Found.{script_found}
 use Rattle.tp_script.proofs.TextAgain.{script_again, text_again}
 use Rattle.tp_script.specs.Meaning.{fault_at, script_at}
@@ -18,10 +15,8 @@ use Rattle.tp_text.proofs.Stepped.{bind_ok, ok_is, tested}
 use Rattle.tp_script.specs.Reading.{FailsAt}
 use Rattle.tp_script.specs.declared.fault.ScriptError.{ScriptError}
 use Rattle.tp_script.specs.declared.fault.ScriptError.TheVariants as errors
-use Rattle.tp_script.specs.declared.script.PlanLine.{PlanLine}
 use Rattle.tp_text.specs.Lines.{Input as Lines, end_fault, lines_of}
 use Rattle.tp_text.specs.declared.lines.LineFault.TheVariants.{AtEnd, Unended}
-use Rattle.tp_text.specs.Steps.{◌>>=◌}
 
 end_is : (lines : List (List ℕ)) → is_end lines ≡ true → lines ≡ [] ∷ []
 end_is ([] ∷ []) e = refl
@@ -96,15 +91,9 @@ short_cause text read few e =
     let short : nat_lt INPUT_MOST (length text) ≡ false = grind (arith, few) in
     rw (short, e) refl
 
-pub built_cause : (text : List ℕ) (s : Script) → length text ≤ INPUT_MOST → script_of text ≡ Ok s → is_built s ≡ true → cause_of text ≡ None
-built_cause text s few e built = short_cause text (Ok s) few e ∙ rw built refl
-
-pub unbuilt_cause : (text : List ℕ) (s : Script) → length text ≤ INPUT_MOST → script_of text ≡ Ok s → is_built s ≡ false → cause_of text ≡ Some Unbuilt
-unbuilt_cause text s few e unbuilt = short_cause text (Ok s) few e ∙ rw unbuilt refl
-
--- the text of a script that is served is not refused
-pub served_text : (text : List ℕ) (s : Script) → length text ≤ INPUT_MOST → IsTextOf text s → is_built s ≡ true → cause_of text ≡ None
-served_text text s few is built = built_cause text s few (read_again text s is) built
+-- the text of an accepted script is not refused
+pub unrefused_text : (text : List ℕ) (s : Script) → length text ≤ INPUT_MOST → IsTextOf text s → cause_of text ≡ None
+unrefused_text text s few is = short_cause text (Ok s) few (read_again text s is)
 
 pub faulty_cause : (text : List ℕ) (error : ScriptError) (fault : ScriptFault) → length text ≤ INPUT_MOST → error ≡ errors.Fault fault
     → FailsAt error (script_of text) → cause_of text ≡ Some (Faulty fault)
@@ -138,12 +127,3 @@ front_cause text front is = go (nat_le (length front) INPUT_MOST) refl
         let long : INPUT_MOST < length front = above (length front) INPUT_MOST many in
         let longer : INPUT_MOST < length text = omega (arith, count, long) in
         long_cause front long ∙ sym (long_cause text longer)
-
-not_so : (b : Bool) → not b ≡ true → b ≡ false
-not_so true e = absurd cc
-not_so false e = refl
-
--- a script that is built is served
-pub built_is_served : (text : List ℕ) (s : Script) → IsTextOf text s → is_built s ≡ true → IsServed s
-unfolding is_built
-built_is_served text s is built = record { accepted = is.0; plain = not_so (list_any is_of_messages s.plan) built }

@@ -1,8 +1,7 @@
 -- Lists of words, and an input that was read whole, for the top call.
-use Rattle.std.proofs.Common.{true, IfErr, ◌≡◌, ℕ, ◌+◌, ◌<◌, ◌≤◌, ◌⊎◌, inl, inr, List, [], ◌∷◌, sym, ◌∙◌, ap, subst, arith, length, get_or, take, min, map, Option, Some, None, Result, Ok, Err, IfOk, IfSome, OnOk}
+use Rattle.std.proofs.Common.{IfErr, ◌≡◌, ℕ, ◌+◌, ◌<◌, ◌≤◌, ◌⊎◌, inl, inr, List, [], ◌∷◌, sym, ◌∙◌, ap, subst, arith, length, get_or, take, min, map, Option, Some, None, Result, Ok, Err, IfOk, IfSome, OnOk}
 use Rattle.std.proofs.lemmas.List.{take_all, length-take}
 use Rattle.tp_driver.specs.Driving.{IsDriven}
-use Rattle.tp_netbook.specs.Served.{IsServed}
 use Rattle.tp_outside.specs.Causes.{Rose}
 use Rattle.tp_rules.proofs.InRange.{run_in_range}
 use Rattle.tp_laws.proofs.Legal.{run_legal}
@@ -10,11 +9,12 @@ use Rattle.tp_rules.proofs.Journals.{run_is_free}
 use Rattle.tp_rules.specs.Laws.{KeepsLaws}
 use Rattle.tp_rules.specs.Runs.{AreInRange}
 use Rattle.tp_rules.specs.declared.event.Entry.{Entry}
-use Rattle.tp_run.specs.Texts.{INPUT_MOST, IsTextOf, cause_of, is_built}
-use Rattle.tp_run.proofs.TextLaws.{front_cause, served_text}
-use Rattle.tp_run.specs.TopCall.{IsCauseOf, IsFaultOf, IsOrMemory, IsRefusedFor, IsSaidBy}
+use Rattle.tp_run.specs.Texts.{INPUT_MOST, IsTextOf, cause_of}
+use Rattle.tp_run.proofs.TextLaws.{front_cause, unrefused_text}
+use Rattle.tp_run.specs.TopCall.{IsFaultOf, IsOrMemory, IsRefusedFor, IsSaidBy}
 use Rattle.tp_run.specs.declared.finished.Cause.{Cause}
-use Rattle.tp_run.specs.declared.finished.Cause.TheVariants.{Words, Script as ScriptFault, Input, Unbuilt, Read, Write, Memory}
+use Rattle.tp_run.specs.declared.finished.Cause.TheVariants.{Words, Script as ScriptFault, Input, Read, Write, Memory}
+use Rattle.tp_script.specs.Accepted.{IsAccepted}
 use Rattle.tp_script.specs.declared.script.Script.{Script}
 
 -- a list of one item is that item
@@ -44,14 +44,12 @@ pub refused_by_whole : (left : Option (List ℕ)) (bytes text : List ℕ) (cause
     IfSome left (λ all. bytes ≡ take (INPUT_MOST + 1) all) → IsRefusedFor (Some text) cause → IsRefusedFor left cause
 refused_by_whole (Some all) bytes text (ScriptFault fault) same is refused = sym (front_cause all text (same ∙ is)) ∙ refused
 refused_by_whole (Some all) bytes text (Input got limit) same is refused = sym (front_cause all text (same ∙ is)) ∙ refused
-refused_by_whole (Some all) bytes text Unbuilt same is refused = sym (front_cause all text (same ∙ is)) ∙ refused
 refused_by_whole (Some all) bytes text Words same is refused = refused
 refused_by_whole (Some all) bytes text Write same is refused = refused
 refused_by_whole (Some all) bytes text Read same is refused = tt
 refused_by_whole (Some all) bytes text Memory same is refused = tt
 refused_by_whole None bytes text (ScriptFault fault) same is refused = tt
 refused_by_whole None bytes text (Input got limit) same is refused = tt
-refused_by_whole None bytes text Unbuilt same is refused = tt
 refused_by_whole None bytes text Words same is refused = refused
 refused_by_whole None bytes text Write same is refused = refused
 refused_by_whole None bytes text Read same is refused = tt
@@ -77,18 +75,18 @@ one_word f xs x text P one both =
     (λ p. let word : f x ≡ text = both.0 p in cc, λ m. let word : f x ≡ text = cc in both.1 word)
 
 -- the messages of a run of the script that was kept have bytes
-pub kept_in_range : (kept : Option Script) (script : Script) (journal : List Entry) → kept ≡ Some script → IsServed script → IsDriven script journal
+pub kept_in_range : (kept : Option Script) (script : Script) (journal : List Entry) → kept ≡ Some script → IsAccepted script → IsDriven script journal
     → IfSome kept (λ _. AreInRange journal)
-kept_in_range None script journal e served driven = tt
-kept_in_range (Some s) script journal e served driven = run_in_range script served.accepted journal (run_is_free script journal driven.run)
+kept_in_range None script journal e accepted driven = tt
+kept_in_range (Some s) script journal e accepted driven = run_in_range script accepted journal (run_is_free script journal driven.run)
 
 -- a run of the script that was kept keeps the laws
-pub kept_laws : (kept : Option Script) (script : Script) (journal : List Entry) → kept ≡ Some script → IsServed script → IsDriven script journal
+pub kept_laws : (kept : Option Script) (script : Script) (journal : List Entry) → kept ≡ Some script → IsAccepted script → IsDriven script journal
     → IfSome kept (λ s. KeepsLaws s journal)
-kept_laws None script journal e served driven = tt
-kept_laws (Some s) script journal e served driven =
+kept_laws None script journal e accepted driven = tt
+kept_laws (Some s) script journal e accepted driven =
     let same : script ≡ s = cc in
-    subst (λ (of : Script). KeepsLaws of journal) same (run_legal script journal served.accepted driven.run)
+    subst (λ (of : Script). KeepsLaws of journal) same (run_legal script journal accepted driven.run)
 
 -- with a script, where no count rose, all went well but for memory
 pub exact_with : (before now : ℕ) (cause : Option Cause) → (cause ≡ None) ⊎ (cause ≡ Some Write) ⊎ (cause ≡ Some Memory)
@@ -111,17 +109,16 @@ pub exact_refused : (left : Option (List ℕ)) (text : List ℕ) (cause : Cause)
 exact_refused None text cause told is refused at read = absurd cc
 exact_refused (Some all) text (ScriptFault fault) told is refused at read = let same : all ≡ text = cc in inl (is ∙ sym refused ∙ ap cause_of same)
 exact_refused (Some all) text (Input got limit) told is refused at read = let same : all ≡ text = cc in inl (is ∙ sym refused ∙ ap cause_of same)
-exact_refused (Some all) text Unbuilt told is refused at read = let same : all ≡ text = cc in inl (is ∙ sym refused ∙ ap cause_of same)
 exact_refused (Some all) text Words told is refused at read = absurd refused
 exact_refused (Some all) text Write told is refused at read = absurd refused
 exact_refused (Some all) text Read told is refused at read = absurd (read is)
 exact_refused (Some all) text Memory told is refused at read = inr is
 
--- the text of a script that is served is run
-pub complete : (text : List ℕ) (script : Script) (told : Option Cause) → length text ≤ INPUT_MOST → IsTextOf text script → is_built script ≡ true
+-- the text of an accepted script is run
+pub complete : (text : List ℕ) (script : Script) (told : Option Cause) → length text ≤ INPUT_MOST → IsTextOf text script
     → IsOrMemory (cause_of text) told → IsOrMemory None told
-complete text script told few is built (inl own) = inl (own ∙ served_text text script few is built)
-complete text script told few is built (inr memory) = inr memory
+complete text script told few is (inl own) = inl (own ∙ unrefused_text text script few is)
+complete text script told few is (inr memory) = inr memory
 
 pub same_cause : {a b : Cause} → Some a ≡ Some b → a ≡ b
 same_cause h = cc

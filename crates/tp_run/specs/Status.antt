@@ -7,7 +7,6 @@ abbrev pub status_of : Cause → ℕ
 status_of causes.Words = 2
 status_of (causes.Script fault) = 3
 status_of (causes.Input got limit) = 3
-status_of causes.Unbuilt = 3
 status_of causes.Read = 4
 status_of causes.Write = 5
 status_of causes.Memory = 6

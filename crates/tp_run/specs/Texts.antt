@@ -1,8 +1,7 @@
 -- What a whole input says: a script with nothing behind it, or the cause of its refusal.
 use Rattle.std.specs.Prelude.{ℕ, ◌≡◌, ◌+◌, nat_lt, Bool, true, false, if◌then◌else◌, List, [], ◌∷◌, Option, Some, None, Result, Ok, Err, length}
-use Rattle.tp_netbook.specs.Served.{is_served}
 use Rattle.tp_run.specs.declared.finished.Cause.{Cause}
-use Rattle.tp_run.specs.declared.finished.Cause.TheVariants.{Script as Faulty, Input, Unbuilt}
+use Rattle.tp_run.specs.declared.finished.Cause.TheVariants.{Script as Faulty, Input}
 use Rattle.tp_script.specs.Accepted.{IsAccepted}
 use Rattle.tp_script.specs.Meaning.{fault_at, script_at}
 use Rattle.tp_script.specs.Print.{script_lines, text_of}
@@ -33,14 +32,10 @@ read_to_end (script, lines) = if is_end lines then Ok script else Err (fault_at 
 unfoldable pub script_of : List ℕ → Result Script ScriptFault
 script_of text = script_at 1 (lines_of text) >>= read_to_end
 
--- what is served today: plans of crashes and recoveries alone
-unfoldable pub is_built : Script → Bool
-is_built script = is_served script
-
 abbrev pub cause_of_read : Result Script ScriptFault → Option Cause
 cause_of_read (Err fault) = Some (Faulty fault)
-cause_of_read (Ok script) = if is_built script then None else Some Unbuilt
+cause_of_read (Ok script) = None
 
--- why a text is refused, if it is: it is too long, a line of it is faulty, or its script isn't served
+-- why a text is refused, if it is: it is too long, or a line of it is faulty
 unfoldable pub cause_of : List ℕ → Option Cause
 cause_of text = if nat_lt INPUT_MOST (length text) then Some (Input (INPUT_MOST + 1) INPUT_MOST) else cause_of_read (script_of text)

@@ -4,7 +4,7 @@ use Rattle.tp_outside.specs.Causes.{Rose}
 use Rattle.tp_run.specs.Status.{status_of}
 use Rattle.tp_run.specs.Texts.{IsTextOf, cause_of}
 use Rattle.tp_run.specs.declared.finished.Cause.{Cause}
-use Rattle.tp_run.specs.declared.finished.Cause.TheVariants.{Words, Script, Input, Unbuilt, Read, Write, Memory}
+use Rattle.tp_run.specs.declared.finished.Cause.TheVariants.{Words, Script, Input, Read, Write, Memory}
 use Rattle.tp_script.specs.declared.script.Script.{Script as ScriptValue}
 
 -- the words that are served
@@ -28,7 +28,6 @@ IsCauseOf left cause = IfSome left (λ text. cause_of text ≡ Some cause)
 abbrev pub IsRefusedFor : Option (List ℕ) → Cause → Type 0
 IsRefusedFor left (Script fault) = IsCauseOf left (Script fault)
 IsRefusedFor left (Input got limit) = IsCauseOf left (Input got limit)
-IsRefusedFor left Unbuilt = IsCauseOf left Unbuilt
 IsRefusedFor left Words = ⊥
 IsRefusedFor left Write = ⊥
 IsRefusedFor left Read = Unit {0}

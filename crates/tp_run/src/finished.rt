@@ -27,9 +27,6 @@ pub enum Cause {
     /// The input is too long: status 3.
     #[error("input limit {got} {limit}")]
     Input { got: u64, limit: u64 },
-    /// The script has what isn't served yet: status 3.
-    #[error("unbuilt")]
-    Unbuilt,
     /// A read failed: status 4.
     #[error("read fault")]
     Read,
@@ -50,7 +47,6 @@ impl Cause {
             Cause::Words => 2,
             Cause::Script(_) => 3,
             Cause::Input { got: _, limit: _ } => 3,
-            Cause::Unbuilt => 3,
             Cause::Read => 4,
             Cause::Write => 5,
             Cause::Memory => 6,

@@ -3,13 +3,13 @@ ghost use Rattle.tp_outside.specs.Causes.{HasCause, Rose};
 ghost use Rattle.tp_outside.specs.Bytes.{AppendsFront, TakesAtMost, TakesFewer};
 ghost use Rattle.std.specs.Io.KnownBytes.{Appends, IsAtEnd, Keeps};
 ghost use Rattle.tp_driver.specs.Driving.{IsDriven};
-ghost use Rattle.tp_netbook.specs.Served.{IsServed};
 ghost use Rattle.tp_print.specs.Report.{report_text};
 ghost use Rattle.tp_rules.specs.Pending.{IsPickedRun, IsQuiet};
 ghost use Rattle.tp_rules.specs.Laws.{KeepsLaws};
 ghost use Rattle.tp_rules.specs.Runs.{AreInRange, IsRun};
+ghost use Rattle.tp_script.specs.Accepted.{IsAccepted};
 ghost use Rattle.tp_script.specs.declared.script.Script.{Script as ScriptValue};
-ghost use Rattle.tp_run.specs.Texts.{INPUT_MOST, IsTextOf, cause_of, is_built};
+ghost use Rattle.tp_run.specs.Texts.{INPUT_MOST, IsTextOf, cause_of};
 ghost use Rattle.tp_run.specs.TopCall.{step_words, IsStatusOf, IsSaidBy, IsRefusedFor, IsOrMemory, IsFaultOf};
 
 use crate::cast::cast;
@@ -41,7 +41,7 @@ pub fn tempo_plain<S: Source, K: Sink>(
     ensures taken { TakesAtMost (INPUT_MOST + 1) (S.left input.old) (S.left input.new) }
     ensures below { result.cause ≡ Some Cause.Read → TakesFewer (INPUT_MOST + 1) (S.left input.old) (S.left input.new) }
 
-    // The input is refused where it is too long, a line of it is faulty, or its script isn't served, each with its cause.
+    // The input is refused where it is too long, or a line of it is faulty, each with its cause.
     // Else it was read to its end, it is the text of the script, and the script is kept.
     ensures refused { IfSome result.cause (λ cause. result.script ≡ None → cause ≢ Cause.Words → IsRefusedFor (S.left input.old) cause) }
     ensures script { IsSaidBy (S.left input.old) result.script }
@@ -72,9 +72,9 @@ pub fn tempo_plain<S: Source, K: Sink>(
     ensures served { IfSome result.script (λ script. (result.cause ≡ None) ⊎ (result.cause ≡ Some Cause.Write) ⊎ (result.cause ≡ Some Cause.Memory)) }
 
     // Where no count of faults rose, the answer is the text's own, but for want of memory: it is refused for its cause
-    // alone, and the text of each script that is served is run.
+    // alone, and the text of each accepted script is run.
     ensures exact { (text : List ℕ) → map string_bytes words.now ≡ step_words → S.left input.old ≡ Some text → ¬ Rose (S.faults input.old) (S.faults input.new) → ¬ Rose (K.faults out.old) (K.faults out.new) → IsOrMemory (cause_of text) result.cause }
-    ensures complete { (text : List ℕ) (script : ScriptValue) → map string_bytes words.now ≡ step_words → S.left input.old ≡ Some text → length text ≤ INPUT_MOST → IsTextOf text script → is_built script ≡ true → ¬ Rose (S.faults input.old) (S.faults input.new) → ¬ Rose (K.faults out.old) (K.faults out.new) → IsOrMemory None result.cause }
+    ensures complete { (text : List ℕ) (script : ScriptValue) → map string_bytes words.now ≡ step_words → S.left input.old ≡ Some text → length text ≤ INPUT_MOST → IsTextOf text script → ¬ Rose (S.faults input.old) (S.faults input.new) → ¬ Rose (K.faults out.old) (K.faults out.new) → IsOrMemory None result.cause }
 {
     let journal = Journal::new(alloc);
     if !is_step(words) {
@@ -119,7 +119,7 @@ fn refused(cause: Cause, journal: Journal) -> Finished
 // The script that the whole input is.
 fn read_input<S: Source>(alloc: Global, input: &mut S) -> Result<Script, Cause>
     ensures script { IfOk result (λ script. IsSaidBy (S.left input.old) (Some script)) }
-    ensures served { IfOk result (λ script. IsServed script) }
+    ensures accepted { IfOk result (λ script. IsAccepted script) }
     ensures ended { OnOk result (S.ended input.new × IsAtEnd (S.left input.new)) }
     ensures taken { TakesAtMost (INPUT_MOST + 1) (S.left input.old) (S.left input.new) }
     ensures below { IfErr result (λ cause. cause ≡ Cause.Read → TakesFewer (INPUT_MOST + 1) (S.left input.old) (S.left input.new)) }
@@ -137,7 +137,7 @@ fn read_input<S: Source>(alloc: Global, input: &mut S) -> Result<Script, Cause>
 
 // Runs the script, and writes the report of its journal.
 fn step<K: Sink>(alloc: Global, script: Script, mut journal: Journal, out: &mut K) -> Finished
-    requires served { IsServed script }
+    requires accepted { IsAccepted script }
     requires empty { journal ≡ [] }
     ensures driven { IsDriven script result.journal }
     ensures quiet { result.cause ≢ Some Cause.Memory → IsQuiet script result.journal }
@@ -166,7 +166,7 @@ fn step<K: Sink>(alloc: Global, script: Script, mut journal: Journal, out: &mut 
 
 // Makes the script's actors, runs them until nothing is pending, and gives the report.
 fn run(alloc: Global, script: &Script, journal: &mut Journal) -> Result<Bytes, Cause>
-    requires served { IsServed script.now }
+    requires accepted { IsAccepted script.now }
     requires empty { journal.old ≡ [] }
     ensures driven { IsDriven script.now journal.new }
     ensures quiet { OnOk result (IsQuiet script.now journal.new) }

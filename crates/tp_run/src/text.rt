@@ -1,14 +1,13 @@
 ghost use Rattle.std.specs.Prelude.{◌≡◌, ◌≢◌, ◌≤◌, None, Some, length, IfErr, IfOk, OnOk};
-ghost use Rattle.tp_netbook.specs.Served.{IsServed};
-ghost use Rattle.tp_run.specs.Texts.{INPUT_MOST, IsTextOf, cause_of, is_built, is_end, read_to_end, script_of};
+ghost use Rattle.tp_run.specs.Texts.{INPUT_MOST, IsTextOf, cause_of, is_end, read_to_end, script_of};
 ghost use Rattle.tp_run.specs.TopCall.{IsRefusedFor};
+ghost use Rattle.tp_script.specs.Accepted.{IsAccepted};
 ghost use Rattle.tp_script.specs.Print.{script_lines};
 ghost use Rattle.tp_script.specs.Reading.{Reads};
 ghost use Rattle.tp_text.specs.Lines.{lines_of};
 
 use crate::finished::Cause;
 use std::alloc::Global;
-use tp_netbook::is_served;
 use tp_script::{Script, ScriptCause, ScriptError, ScriptFault, read_script};
 use tp_text::{LineFault, Lines};
 
@@ -18,7 +17,7 @@ pub const INPUT_LIMIT: usize = 67_108_864;
 /// Reads the script that a whole input is, of which one byte more than it may have is enough.
 pub fn read_text(alloc: Global, text: &[u8]) -> Result<Script, Cause>
     ensures script { IfOk result (IsTextOf text.now) }
-    ensures served { IfOk result (λ script. IsServed script) }
+    ensures accepted { IfOk result (λ script. IsAccepted script) }
     ensures short { OnOk result (length text.now ≤ INPUT_MOST) }
     ensures unrefused { OnOk result (cause_of text.now ≡ None) }
     ensures refused { IfErr result (IsRefusedFor (Some text.now)) }
@@ -30,15 +29,10 @@ pub fn read_text(alloc: Global, text: &[u8]) -> Result<Script, Cause>
             limit: INPUT_LIMIT as u64,
         });
     }
-    let script = match read_to_end(alloc, text) {
-        Ok(script) => script,
-        Err(ScriptError::Fault(fault)) => return Err(Cause::Script(fault)),
-        Err(ScriptError::NoMemory) => return Err(Cause::Memory),
-    };
-    if is_built(&script) {
-        Ok(script)
-    } else {
-        Err(Cause::Unbuilt)
+    match read_to_end(alloc, text) {
+        Ok(script) => Ok(script),
+        Err(ScriptError::Fault(fault)) => Err(Cause::Script(fault)),
+        Err(ScriptError::NoMemory) => Err(Cause::Memory),
     }
 }
 
@@ -78,12 +72,4 @@ fn is_end(lines: &mut Lines) -> bool
         Err(LineFault::Unended) => false,
         Err(LineFault::AtEnd) => true,
     }
-}
-
-// Whether a script has nothing that isn't served yet.
-#[tactic(auto, unfolding(crate::specs::Texts::is_built))]
-fn is_built(script: &Script) -> bool
-    ensures { result ≡ is_built script.now }
-{
-    is_served(script)
 }
