@@ -16,8 +16,8 @@ use Rattle.tp_topology.specs.Shape.{fast_size}
 use Rattle.tp_wire.specs.declared.message.Body.TheVariants.{MPropose, MProposeAck}
 use Rattle.tp_facts.proofs.Facts.{IsFull, HasFloor}
 use Rattle.tp_facts.proofs.Tables.{present_place, present_kept}
-use Rattle.tp_agreement.proofs.Counting.{below_greatest, covers_all, ring_size, value_of}
-use Rattle.tp_agreement.proofs.Moment.{IsRank, Moment, SentBy, acts_of, command, facts_of, home, id_of_command, is_true, named, process, received, received_from, replicas, ring, setting, shape, sheet, sheet_of}
+use Rattle.tp_agreement.proofs.Counting.{below_greatest, covers_all, value_of}
+use Rattle.tp_agreement.proofs.Moment.{IsRank, Moment, SentBy, acts_of, command, facts_of, home, id_of_command, is_true, named, process, received, received_from, quorum_size, replicas, in_quorum, quorum_rule, shape, sheet, sheet_of}
 
 -- a proposal with a stamp that wasn't made by a recovery
 abbrev by_proposal : ℕ → Option Proposed
@@ -50,9 +50,9 @@ module _ (m : Moment) where
   pub record Acknowledged (k j t : ℕ) : Type 0 where
     pub proposed : Proposes j t
     pub of_home : home m ≡ k
-    pub member : ring m j ≡ true
+    pub member : in_quorum m j ≡ true
 
-  -- only the home has acknowledgements, each of a member of its ring that proposed the acknowledged stamp
+  -- only the home has acknowledgements, each of a member of its fast quorum that proposed the acknowledged stamp
   pub acknowledged : (k j t : ℕ) → IsRank m k → kept_at (sheet m k).acknowledged j ≡ Some t → Acknowledged k j t
   acknowledged k j t known kept =
       let a = ((facts_of m k known).sheets m.id).gathered.each j t kept in
@@ -87,7 +87,7 @@ module _ (m : Moment) where
 
   -- rank k has the acknowledgements of a whole fast quorum
   abbrev pub IsWhole : ℕ → Type 0
-  IsWhole k = IsFull (setting m) (sheet m k).acknowledged
+  IsWhole k = IsFull (quorum_rule m) (sheet m k).acknowledged
 
   -- only the home does
   pub whole_is_of_home : (k : ℕ) → IsRank m k → IsWhole k → home m ≡ k
@@ -117,15 +117,14 @@ module _ (m : Moment) where
       let le = below_greatest t.0 (present table) (present_kept table j t.0 t.1) in
       (t.0, (acknowledged k j t.0 known t.1).proposed, le)
 
-  -- a whole fast quorum is all of the ring, which has no more ranks than that, and outside of which none counts_acknowledgement
-  pub member_acknowledged : (k j : ℕ) → IsRank m k → IsWhole k → 1 ≤ j → j ≤ replicas m → ring m j ≡ true
+  -- where a whole fast quorum has acknowledged, each member has: there are no more, and no other rank's acknowledgement counts
+  pub member_acknowledged : (k j : ℕ) → IsRank m k → IsWhole k → 1 ≤ j → j ≤ replicas m → in_quorum m j ≡ true
       → is_there (sheet m k).acknowledged j ≡ true
   member_acknowledged k j known whole low high member =
       let table : List (Option ℕ) = (sheet m k).acknowledged in
       let here = (site_is (shape m) (process m k) known).1 in
       let of_home : home m ≡ k = whole_is_of_home k known whole in
-      let size =
-      ring_size (shape m) (home m) m.accepted.shape (omega (arith, of_home, here.0)) (omega (arith, of_home, here.1)) in
-      covers_all (is_there table) (ring m) (replicas m)
+      let size = quorum_size m (omega (arith, of_home, here.0), omega (arith, of_home, here.1)) in
+      covers_all (is_there table) (in_quorum m) (replicas m)
       (λ i above below e. let t = value_of (kept_at table i) e in (acknowledged k i t.0 known t.1).member)
       (omega (arith, size, whole_count k known whole)) j low high member

@@ -5,7 +5,7 @@ use Rattle.tp_base.specs.Limits.{IsFrom}
 use Rattle.tp_base.specs.Lists.{IsIn}
 use Rattle.tp_base.specs.declared.names.Made.{Made}
 use Rattle.tp_base.specs.declared.names.Made.TheVariants.{Proposal}
-use Rattle.tp_choice.specs.Choosing.{IsChosen, accepted, is_member, of_all, of_members}
+use Rattle.tp_choice.specs.Choosing.{IsChosen, accepted, of_all, of_members}
 use Rattle.tp_choice.specs.declared.answer.RecoveryAnswer.{RecoveryAnswer}
 use Rattle.tp_quorum.specs.Choice.{present, greatest}
 use Rattle.tp_rules.proofs.FitChoices.{is_there}
@@ -19,8 +19,8 @@ use Rattle.tp_topology.specs.Shape.{majority_size}
 use Rattle.tp_facts.proofs.Tables.{present_kept}
 use Rattle.tp_facts.specs.Settled.{is_proposed}
 use Rattle.tp_agreement.proofs.Acknowledgements.{IsWhole, Proposes, acknowledged_at_most, home_proposed_at_most, whole_count}
-use Rattle.tp_agreement.proofs.Counting.{count_with_rank, ring_size, value_of, with_rank, with_rank_cases}
-use Rattle.tp_agreement.proofs.Moment.{IsRank, Moment, SentBy, home, put, replicas, ring, shape, sheet}
+use Rattle.tp_agreement.proofs.Counting.{count_with_rank, value_of, with_rank, with_rank_cases}
+use Rattle.tp_agreement.proofs.Moment.{IsRank, Moment, SentBy, home, put, quorum_size, replicas, in_quorum, shape, sheet}
 use Rattle.tp_agreement.proofs.RecoveryAnswers.{NoneAccepted, RecoveryAt, answered_count, of_acknowledgements, of_member, of_proposals, origin, told_proposal}
 
 module _ (m : Moment) where
@@ -53,7 +53,7 @@ module _ (m : Moment) where
   module _ {u b : ℕ} (r : RecoveryAt m u b) (none : NoneAccepted m r) (ranked : IsFrom 1 (replicas m) (home m)) where
     -- the members that answered
     abbrev answering : ℕ → Bool
-    answering = both (ring m) (is_there r.table)
+    answering = both (in_quorum m) (is_there r.table)
 
     -- the greatest of all answers: each rank that answered proposed at most that, and a recovery quorum is a majority
     all_are_attached : ((a : RecoveryAnswer) → IsIn a (present r.table) → a.stamp.0 ≤ u) → IsMajorityAttached u
@@ -66,14 +66,14 @@ module _ (m : Moment) where
 
     -- P of each member's answer
     abbrev OfMembers : (RecoveryAnswer → Type 0) → Type 0
-    OfMembers P = (a : RecoveryAnswer) → IsIn a (present r.table) → is_member (shape m) (home m) a ≡ true → P a
+    OfMembers P = (a : RecoveryAnswer) → IsIn a (present r.table) → in_quorum m a.rank.0 ≡ true → P a
 
     module _ (why : OfMembers (λ a. (a.rank.0 ≢ home m) × (a.made ≡ Proposal)))
         (highest : OfMembers (λ a. a.stamp.0 ≤ u)) where
       -- a member that answered proposed without a recovery, at most the greatest of the members' answers
       member_proposed : (j : ℕ) → answering j ≡ true → (t : ℕ) × IsRank m j × Proposes m j t × (t ≤ u)
       member_proposed j e =
-          let parts = and_parts (ring m j) (is_there r.table j) e in
+          let parts = and_parts (in_quorum m j) (is_there r.table j) e in
           let a = value_of (kept_at r.table j) parts.1 in
           let there : IsIn a.0 (present r.table) = present_kept r.table j a.0 a.1 in
           let member = of_member m r j a.0 a.1 parts.0 in
@@ -85,7 +85,7 @@ module _ (m : Moment) where
       -- the home isn't one of them
       home_is_out : answering (home m) ≡ false
       home_is_out = false_from_ne_true (answering (home m)) (λ e.
-          let parts = and_parts (ring m (home m)) (is_there r.table (home m)) e in
+          let parts = and_parts (in_quorum m (home m)) (is_there r.table (home m)) e in
           let a = value_of (kept_at r.table (home m)) parts.1 in
           let member = of_member m r (home m) a.0 a.1 parts.0 in
           (why a.0 (present_kept r.table (home m) a.0 a.1) member).0 (r.answers (home m) a.0 a.1).rank)
@@ -94,10 +94,10 @@ module _ (m : Moment) where
       -- rank more: it didn't answer, but proposed at most what each of them did
       members_are_attached : IsMajorityAttached u
       members_are_attached =
-          let size = ring_size (shape m) (home m) m.accepted.shape ranked.0 ranked.1 in
+          let size = quorum_size m ranked in
           let meet = recovery_meets_fast (shape m) m.accepted.shape in
-          let sizes = share (ring m) (is_there r.table) (replicas m) in
-          let one = shared (ring m) (is_there r.table) (replicas m)
+          let sizes = share (in_quorum m) (is_there r.table) (replicas m) in
+          let one = shared (in_quorum m) (is_there r.table) (replicas m)
           (omega (arith, size, answered_count m r, meet, m.accepted.shape.some_replicas)) in
           let x = member_proposed one.rank (both_pass one.rank one.first one.second) in
           let low = home_proposed_at_most m one.rank x.0 x.1 x.2 in
@@ -112,11 +112,11 @@ module _ (m : Moment) where
           let home_more = count_with_rank answering (replicas m) (home m) ranked.0 ranked.1 home_is_out in
           omega (arith, more, home_more, sizes, size, answered_count m r, meet)
         where
-          both_pass : (j : ℕ) → ring m j ≡ true → is_there r.table j ≡ true → answering j ≡ true
+          both_pass : (j : ℕ) → in_quorum m j ≡ true → is_there r.table j ≡ true → answering j ≡ true
           both_pass j e f = cc
 
     -- by the cases of the rule of choice
-    chosen_is_attached : IsChosen (shape m) (home m) (present r.table) u → IsMajorityAttached u
+    chosen_is_attached : IsChosen (in_quorum m) (home m) (present r.table) u → IsMajorityAttached u
     chosen_is_attached (accepted a there some is best) = absurd (omega (arith, some, none a there))
     chosen_is_attached (of_all zeros a there member why highest source) = all_are_attached highest
     chosen_is_attached (of_members zeros why highest source) = members_are_attached why highest

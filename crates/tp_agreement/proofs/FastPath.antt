@@ -14,8 +14,8 @@ use Rattle.tp_topology.specs.Counting.{count_up_to}
 use Rattle.tp_facts.proofs.Facts.{IsFast}
 use Rattle.tp_facts.proofs.Tables.{present_place, present_kept}
 use Rattle.tp_agreement.proofs.Acknowledgements.{Proposes, acknowledged, acknowledged_at_most, home_proposed_at_most, member_acknowledged, one_proposal, table_size, whole_is_of_home}
-use Rattle.tp_agreement.proofs.Counting.{answers_from_top, has_value, has_value_is, ring_size, value_count, value_of}
-use Rattle.tp_agreement.proofs.Moment.{IsRank, Moment, SentBy, home, process, put, replicas, ring, setting, shape, sheet}
+use Rattle.tp_agreement.proofs.Counting.{answers_from_top, has_value, has_value_is, value_count, value_of}
+use Rattle.tp_agreement.proofs.Moment.{IsRank, Moment, SentBy, home, process, put, quorum_size, replicas, in_quorum, quorum_rule, shape, sheet}
 use Rattle.tp_agreement.proofs.RecoveryAnswers.{NoneAccepted, RecoveryAt, answered_count, member_of, of_acknowledgements, of_member, of_proposals, origin, proposal_in, told_proposal}
 
 module _ (m : Moment) where
@@ -23,7 +23,7 @@ module _ (m : Moment) where
   pub record DecidedFast (t : ℕ) : Type 0 where
     pub rank : ℕ
     pub known : IsRank m rank
-    pub fast : IsFast (setting m) (sheet m rank).acknowledged
+    pub fast : IsFast (quorum_rule m) (sheet m rank).acknowledged
     pub top : greatest (present (sheet m rank).acknowledged) ≡ t
 
   -- only the home decides fast
@@ -43,21 +43,21 @@ module _ (m : Moment) where
     -- the home's exclusion: a home that decided answers no recovery
     home_is_silent : (a : RecoveryAnswer) → kept_at r.table (home m) ≡ Some a → ⊥
     home_is_silent a kept = (r.answers (home m) a kept).slow
-        (subst (λ (k : ℕ). IsFast (setting m) (sheet m k).acknowledged) (sym (fast_is_of_home f)) f.fast)
+        (subst (λ (k : ℕ). IsFast (quorum_rule m) (sheet m k).acknowledged) (sym (fast_is_of_home f)) f.fast)
 
     home_is_out : is_there r.table (home m) ≡ false
     home_is_out = false_from_ne_true (is_there r.table (home m)) (λ e.
         let a = value_of (kept_at r.table (home m)) e in home_is_silent a.0 a.1)
 
-    -- each member of the ring acknowledged, so proposed without a recovery, and at most t
-    member_proposed : (j : ℕ) → 1 ≤ j → j ≤ replicas m → ring m j ≡ true → (x : ℕ) × Proposes m j x × (x ≤ t)
+    -- each member of the fast quorum acknowledged, so proposed without a recovery, and at most t
+    member_proposed : (j : ℕ) → 1 ≤ j → j ≤ replicas m → in_quorum m j ≡ true → (x : ℕ) × Proposes m j x × (x ≤ t)
     member_proposed j low high member =
         let there = member_acknowledged m f.rank j f.known f.fast.0 low high member in
         let x = acknowledged_at_most m f.rank j f.known there in
         (x.0, x.1, omega (arith, x.2, f.top))
 
     -- and its answer says so
-    member_told : (i : ℕ) (a : RecoveryAnswer) → kept_at r.table i ≡ Some a → ring m i ≡ true
+    member_told : (i : ℕ) (a : RecoveryAnswer) → kept_at r.table i ≡ Some a → in_quorum m i ≡ true
         → (a.made ≡ Proposal) × (a.stamp.0 ≤ t)
     member_told i a kept member =
         let is = (site_is (shape m) (process m i) (r.answers i a kept).known).1 in
@@ -65,11 +65,11 @@ module _ (m : Moment) where
         let told = one_proposal m i x.0 (proposal_in a) x.1 (told_proposal m r none i a kept) in
         (told.0, omega (arith, told.1, x.2))
 
-    -- a member of the ring that answered and proposed at least t
+    -- a member that answered and proposed at least t
     record AnsweredFromTop : Type 0 where
       rank : ℕ
       there : is_there r.table rank ≡ true
-      member : ring m rank ≡ true
+      member : in_quorum m rank ≡ true
       stamp : ℕ
       proposed : Proposes m rank stamp
       from_top : t ≤ stamp
@@ -79,9 +79,9 @@ module _ (m : Moment) where
     where_home_is_at_top e =
         let own : Proposes m (home m) t =
         (acknowledged m f.rank (home m) t f.known (has_value_is t acknowledgements (home m) e)).proposed in
-        let size = ring_size (shape m) (home m) m.accepted.shape home_is_rank.0 home_is_rank.1 in
+        let size = quorum_size m home_is_rank in
         let meet = recovery_meets_fast (shape m) m.accepted.shape in
-        let both = shared (ring m) (is_there r.table) (replicas m)
+        let both = shared (in_quorum m) (is_there r.table) (replicas m)
         (omega (arith, size, answered_count m r, meet, m.accepted.shape.some_replicas)) in
         let x = member_proposed both.rank both.low both.high both.first in
         let known : IsRank m both.rank =
@@ -131,7 +131,7 @@ module _ (m : Moment) where
         go false e = where_home_is_below e
 
     -- such a recovery chooses the stamp that was decided fast. By the cases of the rule of choice:
-    fast_decision_fixes_choice : IsChosen (shape m) (home m) (present r.table) u → u ≡ t
+    fast_decision_fixes_choice : IsChosen (in_quorum m) (home m) (present r.table) u → u ≡ t
     -- an accepted stamp is chosen: no answer tells of one
     fast_decision_fixes_choice (accepted a there some is best) = absurd (omega (arith, some, none a there))
     -- the greatest of all is, as the home answered or a member proposed in a recovery: but the home is silent, and each

@@ -16,7 +16,7 @@ use Rattle.tp_rules.specs.Addresses.{is_site_of}
 use Rattle.tp_rules.specs.Journal.{act_of, acts, IsSent}
 use Rattle.tp_rules.specs.Process.{state_after}
 use Rattle.tp_rules.specs.Runs.{IsFreeHistory, outputs_by}
-use Rattle.tp_rules.specs.Sheet.{Sheet, ring_setting, stamp_of}
+use Rattle.tp_rules.specs.Sheet.{Sheet, ring_rule, stamp_of}
 use Rattle.tp_rules.specs.declared.event.Entry.{Entry}
 use Rattle.tp_script.specs.Accepted.{IsAccepted}
 use Rattle.tp_script.specs.declared.script.Script.{Script}
@@ -30,16 +30,16 @@ use Rattle.tp_facts.proofs.Deliveries.{took_sent, sent_before}
 use Rattle.tp_facts.proofs.Consequences.{sender}
 use Rattle.tp_agreement.proofs.Decisions.{Decided, fast_path, slow_path}
 use Rattle.tp_agreement.proofs.LaterMoments.{decided_later}
-use Rattle.tp_agreement.proofs.Moment.{IsRank, Moment, SentBy, acts_of, command, facts_of, id_of_command, is_true, moment_at, named, process, put, received_from, sent_of, setting, shape, sheet}
+use Rattle.tp_agreement.proofs.Moment.{IsRank, Moment, SentBy, acts_of, command, facts_of, id_of_command, is_true, moment_at, named, process, put, received_from, sent_of, quorum_rule, shape, sheet}
 
 -- what a process sent by its acts was sent
 acts_are_sent : (script : Script) (older : List Entry) → IsFreeHistory script older → (k : Site) (n : Message)
-    → IsIn n (sent_by (ring_setting script.topology) k (acts older (Process k))) → IsSent older n
+    → IsIn n (sent_by (ring_rule script.topology) k (acts older (Process k))) → IsSent older n
 acts_are_sent script [] history k n there = absurd there
 acts_are_sent script (e ∷ older) history k n there =
-    let earlier : List Message = sent_by (ring_setting script.topology) k (acts older (Process k)) in
+    let earlier : List Message = sent_by (ring_rule script.topology) k (acts older (Process k)) in
     let rest : IsIn n earlier → IsSent older n = acts_are_sent script older history.0 k n in
-    acts_step (λ (list : List Act). IsIn n (sent_by (ring_setting script.topology) k list) → IsSent (e ∷ older) n)
+    acts_step (λ (list : List Act). IsIn n (sent_by (ring_rule script.topology) k list) → IsSent (e ∷ older) n)
     older e (Process k) (λ h. inr (rest h))
     (λ act same is h. elim (in_either (outputs_by script older (Process k) (Some act)) earlier n h) [
       | inl new ↦
@@ -53,7 +53,7 @@ acts_are_sent script (e ∷ older) history k n there =
 
 -- what a process keeps of the moment's command, in whatever partition it is
 abbrev pub sheet_at_site : Moment → Site → Sheet
-sheet_at_site m k = (state_after (setting m) k (acts m.journal (Process k))).sheets m.id
+sheet_at_site m k = (state_after (quorum_rule m) k (acts m.journal (Process k))).sheets m.id
 
 -- the same moment of another partition
 abbrev in_partition : Moment → ℕ → Moment
@@ -61,7 +61,7 @@ in_partition m p = moment_at m.script m.accepted m.journal m.history p m.id
 
 -- what a process decided itself, by its table of acknowledgements or by votes for what it put
 decided_itself : (m : Moment) (j t : ℕ) → IsRank m j
-    → DecidedItself (setting m) (named m) (acts_of m j) (sent_of m j) m.id (sheet m j).acknowledged t → Decided m t
+    → DecidedItself (quorum_rule m) (named m) (acts_of m j) (sent_of m j) m.id (sheet m j).acknowledged t → Decided m t
 decided_itself m j t known (inl fast) = fast_path (record { rank = j; known = known; fast = fast.0; top = fast.1 })
 decided_itself m j t known (inr voted) =
     let b : ℕ = voted.0 in
@@ -86,8 +86,8 @@ decided_itself m j t known (inr voted) =
 -- what it learned, it was told or decided itself
 learned : (m : Moment) (k : Site) (t : ℕ) → is_site_of (shape m) k ≡ true
     → (WasTaken (acts m.journal (Process k)) (MCommit (command m) (record { 0 = m.partition }) (stamp t)) → Decided m t)
-    → IsLearned (setting m) k (named m) (acts m.journal (Process k))
-    (sent_by (setting m) k (acts m.journal (Process k))) m.id
+    → IsLearned (quorum_rule m) k (named m) (acts m.journal (Process k))
+    (sent_by (quorum_rule m) k (acts m.journal (Process k))) m.id
     (sheet_at_site m k).acknowledged m.partition t → Decided m t
 learned m k t known told (inl got) = told got
 learned m k t known told (inr own) =

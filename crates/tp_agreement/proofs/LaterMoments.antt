@@ -13,7 +13,7 @@ use Rattle.tp_rules.specs.Addresses.{site}
 use Rattle.tp_rules.specs.Journal.{acts}
 use Rattle.tp_rules.specs.Process.{Moved, ProcessState, state_after}
 use Rattle.tp_rules.specs.Runs.{IsFreeHistory}
-use Rattle.tp_rules.specs.Sheet.{Setting, Sheet, ring_setting}
+use Rattle.tp_rules.specs.Sheet.{QuorumRule, Sheet, ring_rule}
 use Rattle.tp_rules.specs.declared.event.Entry.{Entry}
 use Rattle.tp_script.specs.Accepted.{IsAccepted}
 use Rattle.tp_script.specs.declared.script.Script.{Script}
@@ -25,7 +25,7 @@ use Rattle.tp_facts.proofs.ActSteps.{step_of_act}
 use Rattle.tp_agreement.proofs.Decisions.{Decided, fast_path, slow_path}
 use Rattle.tp_agreement.proofs.Moment.{Moment, SentBy, moment_at}
 
-module _ (s : Setting) (me : Site) where
+module _ (s : QuorumRule) (me : Site) where
   -- a process takes acknowledgements only while it has fewer than a fast quorum
   row_keeps_whole : {act : Act} {id : CommandId} {old new : Sheet} {out : List Message} → SheetStep s me act id old new out
       → IsFull s old.acknowledged → new.acknowledged ≡ old.acknowledged
@@ -66,17 +66,17 @@ module _ (script : Script) (accepted : IsAccepted script) (older : List Entry) (
   after = moment_at script accepted (e ∷ older) history partition id
 
   abbrev acknowledged_by : Site → List Act → List (Option ℕ)
-  acknowledged_by k list = ((state_after (ring_setting script.topology) k list).sheets id).acknowledged
+  acknowledged_by k list = ((state_after (ring_rule script.topology) k list).sheets id).acknowledged
 
   -- so an entry leaves the acknowledgements of a whole fast quorum as they are
-  whole_stays : (k : Site) → IsFull (ring_setting script.topology) (acknowledged_by k (acts older (Process k)))
+  whole_stays : (k : Site) → IsFull (ring_rule script.topology) (acknowledged_by k (acts older (Process k)))
       → acknowledged_by k (acts (e ∷ older) (Process k)) ≡ acknowledged_by k (acts older (Process k))
   whole_stays k whole =
       acts_step (λ (list : List Act). acknowledged_by k list ≡ acknowledged_by k (acts older (Process k)))
       older e (Process k) refl
-      (λ act same is. step_keeps_whole (ring_setting script.topology) k
-      (step_of_act (ring_setting script.topology) k act
-      (state_after (ring_setting script.topology) k (acts older (Process k)))) id whole)
+      (λ act same is. step_keeps_whole (ring_rule script.topology) k
+      (step_of_act (ring_rule script.topology) k act
+      (state_after (ring_rule script.topology) k (acts older (Process k)))) id whole)
 
   -- what was sent before it was sent after it, and so what was decided
   sent_later : (j : ℕ) (body : Body) → SentBy before j body → SentBy after j body
@@ -89,7 +89,7 @@ module _ (script : Script) (accepted : IsAccepted script) (older : List Entry) (
       fast_path (record {
         rank = f.rank;
         known = f.known;
-        fast = subst (IsFast (ring_setting script.topology)) (sym stays) f.fast;
+        fast = subst (IsFast (ring_rule script.topology)) (sym stays) f.fast;
         top = ap (λ (table : List (Option ℕ)). greatest (present table)) stays ∙ f.top;
       })
   decided_later t (slow_path b x) = slow_path b (record {

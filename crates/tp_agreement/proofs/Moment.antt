@@ -2,23 +2,26 @@
 use Rattle.std.proofs.Common.{◌≡◌, ℕ, Bool, true, List, [], ◌∷◌, refl, sym, subst}
 use Rattle.std.proofs.lemmas.Bool.{cond_both}
 use Rattle.tp_base.proofs.SameNames.{same_id_is}
+use Rattle.tp_base.specs.Limits.{IsFrom}
 use Rattle.tp_base.specs.Lists.{IsIn}
 use Rattle.tp_base.specs.Names.{same_id}
 use Rattle.tp_base.specs.declared.names.ActorName.TheVariants.{Process}
 use Rattle.tp_base.specs.declared.names.CommandId.{CommandId}
 use Rattle.tp_base.specs.declared.names.Site.{Site}
 use Rattle.tp_ops.specs.declared.command.Command.{Command}
+use Rattle.tp_rules.proofs.FitChoices.{ring_has_fast_size}
 use Rattle.tp_rules.proofs.SendsOfProcess.{stamp}
 use Rattle.tp_rules.specs.Acts.{Act, Took}
 use Rattle.tp_rules.specs.Addresses.{is_site_of, rank_of, site}
 use Rattle.tp_rules.specs.Journal.{IsSent, acts}
 use Rattle.tp_rules.specs.Process.{state_after}
 use Rattle.tp_rules.specs.Runs.{IsFreeHistory}
-use Rattle.tp_rules.specs.Sheet.{Setting, Sheet, ring_setting}
+use Rattle.tp_rules.specs.Sheet.{QuorumRule, Sheet, ring_rule}
 use Rattle.tp_rules.specs.declared.event.Entry.{Entry}
 use Rattle.tp_script.specs.Accepted.{IsAccepted}
 use Rattle.tp_script.specs.declared.script.Script.{Script}
-use Rattle.tp_topology.specs.Shape.{Shape, in_ring}
+use Rattle.tp_topology.specs.Counting.{count_up_to}
+use Rattle.tp_topology.specs.Shape.{Shape, fast_size}
 use Rattle.tp_wire.specs.declared.message.Body.{Body}
 use Rattle.tp_wire.specs.declared.message.Body.TheVariants.{MConsensus}
 use Rattle.tp_wire.specs.declared.message.Message.{Message}
@@ -63,8 +66,8 @@ module _ (m : Moment) where
   abbrev pub shape : Shape
   shape = m.script.topology
 
-  abbrev pub setting : Setting
-  setting = ring_setting m.script.topology
+  abbrev pub quorum_rule : QuorumRule
+  quorum_rule = ring_rule m.script.topology
 
   -- the script's command of each identifier, this moment's, and its home
   abbrev pub named : CommandId → Command
@@ -79,9 +82,13 @@ module _ (m : Moment) where
   abbrev pub replicas : ℕ
   replicas = m.script.topology.replicas
 
-  -- whether a rank is in the ring of the home, which is the command's fast quorum
-  abbrev pub ring : ℕ → Bool
-  ring j = in_ring shape home j
+  -- whether a rank is of the command's fast quorum
+  abbrev pub in_quorum : ℕ → Bool
+  in_quorum j = quorum_rule.in_quorum command j
+
+  -- all that is used of it: it has the fast size
+  pub quorum_size : IsFrom 1 replicas home → count_up_to in_quorum replicas ≡ fast_size shape
+  quorum_size ranked = ring_has_fast_size shape m.accepted.shape command ranked.0 ranked.1
 
   -- the process of a rank in the partition
   abbrev pub process : ℕ → Site
@@ -96,10 +103,10 @@ module _ (m : Moment) where
   acts_of j = acts m.journal (Process (process j))
 
   abbrev pub sent_of : ℕ → List Message
-  sent_of j = sent_by setting (process j) (acts_of j)
+  sent_of j = sent_by quorum_rule (process j) (acts_of j)
 
   abbrev pub sheet_of : ℕ → CommandId → Sheet
-  sheet_of j id = (state_after setting (process j) (acts_of j)).sheets id
+  sheet_of j id = (state_after quorum_rule (process j) (acts_of j)).sheets id
 
   abbrev pub sheet : ℕ → Sheet
   sheet j = sheet_of j m.id
@@ -144,7 +151,7 @@ module _ (m : Moment) where
 
   -- so what a message says of its sender is true of it
   pub is_true : {j : ℕ} {body : Body} → SentBy j body
-      → (i : CommandId) × IsTrue setting (process j) named (acts_of j) (sent_of j) i (sheet_of j i) body
+      → (i : CommandId) × IsTrue quorum_rule (process j) named (acts_of j) (sent_of j) i (sheet_of j i) body
   is_true {j} {body} sent = said_of (facts_of j sent.known) sent.message body (by_acts sent) sent.is
 
   -- a put: the command with a stamp at a ballot
@@ -153,8 +160,8 @@ module _ (m : Moment) where
 
   -- what holds of it: the home's first put, or a recovery's
   pub is_put : {j u b : ℕ} → SentBy j (put u b)
-      → IsPut setting (process j) named (acts_of j) (sent_of j) m.id (sheet j) u b
+      → IsPut quorum_rule (process j) named (acts_of j) (sent_of j) m.id (sheet j) u b
   is_put {j} {u} {b} sent =
-      subst (λ (i : CommandId). IsPut setting (process j) named (acts_of j) (sent_of j) i (sheet_of j i) u b)
+      subst (λ (i : CommandId). IsPut quorum_rule (process j) named (acts_of j) (sent_of j) i (sheet_of j i) u b)
       (id_of_command m.script.commands m.id)
       (put_of (facts_of j sent.known) sent.message command (stamp u) b (by_acts sent) sent.is)

@@ -3,7 +3,7 @@ use Rattle.std.proofs.Common.{◌≡◌, ℕ, zero, suc, ◌<◌, ◌≤◌, inl
 use Rattle.std.proofs.lemmas.Bool.{cases_lt}
 use Rattle.tp_base.specs.Lists.{IsIn}
 use Rattle.tp_choice.proofs.Cases.{choice_cases}
-use Rattle.tp_choice.specs.Choosing.{IsChosen, accepted, is_member, of_all, of_members}
+use Rattle.tp_choice.specs.Choosing.{IsChosen, accepted, of_all, of_members}
 use Rattle.tp_choice.specs.declared.answer.RecoveryAnswer.{RecoveryAnswer}
 use Rattle.tp_quorum.specs.Choice.{present, greatest}
 use Rattle.tp_rules.proofs.FitChoices.{is_there, present_counted}
@@ -16,7 +16,7 @@ use Rattle.tp_facts.proofs.Facts.{IsFast, IsRecovered}
 use Rattle.tp_facts.proofs.Tables.{present_place, present_kept}
 use Rattle.tp_facts.proofs.Consequences.{answer_of}
 use Rattle.tp_agreement.proofs.Acknowledgements.{IsWhole}
-use Rattle.tp_agreement.proofs.Moment.{IsRank, Moment, SentBy, acts_of, by_acts, facts_of, home, is_put, process, put, received, received_from, replicas, ring, setting, shape, sheet}
+use Rattle.tp_agreement.proofs.Moment.{IsRank, Moment, SentBy, acts_of, by_acts, command, facts_of, home, is_put, process, put, received, received_from, replicas, in_quorum, quorum_rule, shape, sheet}
 
 -- the proposal that an answer tells of
 abbrev pub proposal_in : RecoveryAnswer → Proposed
@@ -34,7 +34,7 @@ module _ (m : Moment) where
     -- where it tells of nothing accepted, it tells of its proposal
     pub proposed : a.accepted ≡ 0 → (sheet m i).proposal ≡ Some (proposal_in a)
     -- who decided fast doesn't answer
-    pub slow : IsFast (setting m) (sheet m i).acknowledged → ⊥
+    pub slow : IsFast (quorum_rule m) (sheet m i).acknowledged → ⊥
 
   -- a recovery at ballot b chose stamp u from these answers
   pub record RecoveryAt (u b : ℕ) : Type 0 where
@@ -44,7 +44,7 @@ module _ (m : Moment) where
     pub enough : length (present table) ≡ recovery_size (shape m)
     pub answers : (i : ℕ) (a : RecoveryAnswer) → kept_at table i ≡ Some a → Answered i a b
     -- the case of the rule of choice that gave u
-    pub choice : IsChosen (shape m) (home m) (present table) u
+    pub choice : IsChosen (in_quorum m) (home m) (present table) u
 
   -- the home put the greatest stamp that was acknowledged, at the ballot of its rank
   pub record FirstPut (j u b : ℕ) : Type 0 where
@@ -61,7 +61,7 @@ module _ (m : Moment) where
     by_recovery : replicas m < b → RecoveryAt u b → PutCase j u b
 
   -- each answer that a process took to its recovery, its sender gave
-  answered : (j u b : ℕ) (r : IsRecovered (setting m) (acts_of m j) m.id (home m) u b) (i : ℕ) (a : RecoveryAnswer)
+  answered : (j u b : ℕ) (r : IsRecovered (quorum_rule m) (acts_of m j) m.id (command m) u b) (i : ℕ) (a : RecoveryAnswer)
       → kept_at r.table i ≡ Some a → Answered i a b
   answered j u b r i a kept =
       let from = r.answers i a kept in
@@ -85,14 +85,14 @@ module _ (m : Moment) where
       let is = is_put m sent in
       elim (cases_lt (replicas m) b) [
         | inl above ↦
-            let r : IsRecovered (setting m) (acts_of m j) m.id (home m) u b = (is.later above).1 in
+            let r : IsRecovered (quorum_rule m) (acts_of m j) m.id (command m) u b = (is.later above).1 in
             by_recovery above (record {
               table = r.table;
               places = r.places;
               enough = r.enough;
               answers = answered j u b r;
-              choice = subst (IsChosen (shape m) (home m) (present r.table)) (sym r.choice)
-                  (choice_cases (shape m) (home m) (present r.table));
+              choice = subst (IsChosen (in_quorum m) (home m) (present r.table)) (sym r.choice)
+                  (choice_cases (in_quorum m) (home m) (present r.table));
             })
         | inr low ↦
             let f = is.first low in
@@ -106,14 +106,14 @@ module _ (m : Moment) where
         let counted = present_counted r.table (replicas m) (omega (arith, r.places)) in
         omega (arith, counted, r.enough)
 
-    -- the answer of a rank in the ring is a member's, and the other way round
-    pub of_member : (i : ℕ) (a : RecoveryAnswer) → kept_at r.table i ≡ Some a → ring m i ≡ true
-        → is_member (shape m) (home m) a ≡ true
-    of_member i a kept = subst (λ (k : ℕ). ring m k ≡ true) (sym (r.answers i a kept).rank)
+    -- the answer of a member's rank is a member's, and the other way round
+    pub of_member : (i : ℕ) (a : RecoveryAnswer) → kept_at r.table i ≡ Some a → in_quorum m i ≡ true
+        → in_quorum m a.rank.0 ≡ true
+    of_member i a kept = subst (λ (k : ℕ). in_quorum m k ≡ true) (sym (r.answers i a kept).rank)
 
-    pub member_of : (i : ℕ) (a : RecoveryAnswer) → kept_at r.table i ≡ Some a → is_member (shape m) (home m) a ≡ true
-        → ring m i ≡ true
-    member_of i a kept = subst (λ (k : ℕ). ring m k ≡ true) (r.answers i a kept).rank
+    pub member_of : (i : ℕ) (a : RecoveryAnswer) → kept_at r.table i ≡ Some a → in_quorum m a.rank.0 ≡ true
+        → in_quorum m i ≡ true
+    member_of i a kept = subst (λ (k : ℕ). in_quorum m k ≡ true) (r.answers i a kept).rank
 
     -- no answer tells of an accepted stamp
     abbrev pub NoneAccepted : Type 0

@@ -7,8 +7,7 @@ use Rattle.tp_base.specs.declared.names.Made.{Made}
 use Rattle.tp_base.specs.declared.names.Made.TheVariants.{Proposal, Recovery}
 use Rattle.tp_base.specs.Lists.{IsIn}
 use Rattle.tp_choice.specs.declared.answer.RecoveryAnswer.{RecoveryAnswer}
-use Rattle.tp_choice.specs.Choosing.{best_from, better, chosen_of_proposals, chosen_with, greatest_by, is_member, is_over, is_recovery, member_stamp, recovery_choice, tells_slow, IsChosen, accepted, of_all, of_members}
-use Rattle.tp_topology.specs.Shape.{Shape}
+use Rattle.tp_choice.specs.Choosing.{best_from, better, chosen_of_proposals, chosen_with, greatest_by, is_over, is_recovery, member_stamp, recovery_choice, tells_slow, IsChosen, accepted, of_all, of_members}
 
 -- b is not better than a
 abbrev IsUnder : RecoveryAnswer → RecoveryAnswer → Type 0
@@ -119,53 +118,53 @@ made_as : (made : Made) → is_recovery made ≡ false → made ≡ Proposal
 made_as Proposal e = refl
 made_as Recovery e = absurd cc
 
-slow_is : (shape : Shape) (home : ℕ) (a : RecoveryAnswer) → tells_slow shape home a ≡ true → (is_member shape home a ≡ true) × ((a.rank.0 ≡ home) ⊎ (a.made ≡ Recovery))
-slow_is shape home a e = let parts = and_parts (is_member shape home a) ((a.rank.0 == home) || is_recovery a.made) e in
+slow_is : (in_quorum : ℕ → Bool) (home : ℕ) (a : RecoveryAnswer) → tells_slow in_quorum home a ≡ true → (in_quorum a.rank.0 ≡ true) × ((a.rank.0 ≡ home) ⊎ (a.made ≡ Recovery))
+slow_is in_quorum home a e = let parts = and_parts (in_quorum a.rank.0) ((a.rank.0 == home) || is_recovery a.made) e in
     (parts.0, elim (or_cases (a.rank.0 == home) (is_recovery a.made) parts.1) [ inl same ↦ inl (eqb-true a.rank.0 home same) | inr made ↦ inr (made_by a.made made) ])
 
-not_slow : (shape : Shape) (home : ℕ) (a : RecoveryAnswer) → tells_slow shape home a ≡ false → is_member shape home a ≡ true → (a.rank.0 ≢ home) × (a.made ≡ Proposal)
-not_slow shape home a e member = go (is_member shape home a) member e
+not_slow : (in_quorum : ℕ → Bool) (home : ℕ) (a : RecoveryAnswer) → tells_slow in_quorum home a ≡ false → in_quorum a.rank.0 ≡ true → (a.rank.0 ≢ home) × (a.made ≡ Proposal)
+not_slow in_quorum home a e member = go (in_quorum a.rank.0) member e
   where
     go : (t : Bool) → t ≡ true → (t && ((a.rank.0 == home) || is_recovery a.made)) ≡ false → (a.rank.0 ≢ home) × (a.made ≡ Proposal)
     go true m e = (λ same. grind arith, let made : is_recovery a.made ≡ false = grind arith in made_as a.made made)
     go false m e = absurd cc
 
-is_stamp : (shape : Shape) (home : ℕ) (a : RecoveryAnswer) (n : ℕ) → member_stamp shape home a ≡ n → 0 < n → (is_member shape home a ≡ true) × (a.stamp.0 ≡ n)
-is_stamp shape home a n e some = go (is_member shape home a) refl e
+is_stamp : (in_quorum : ℕ → Bool) (a : RecoveryAnswer) (n : ℕ) → member_stamp in_quorum a ≡ n → 0 < n → (in_quorum a.rank.0 ≡ true) × (a.stamp.0 ≡ n)
+is_stamp in_quorum a n e some = go (in_quorum a.rank.0) refl e
   where
-    go : (t : Bool) → is_member shape home a ≡ t → cond t a.stamp.0 0 ≡ n → (is_member shape home a ≡ true) × (a.stamp.0 ≡ n)
+    go : (t : Bool) → in_quorum a.rank.0 ≡ t → cond t a.stamp.0 0 ≡ n → (in_quorum a.rank.0 ≡ true) × (a.stamp.0 ≡ n)
     go true m e = (m, e)
     go false m e = absurd (omega arith)
 
-proposals : (shape : Shape) (home : ℕ) (answers : List RecoveryAnswer) → ((b : RecoveryAnswer) → IsIn b answers → b.accepted ≡ 0)
-    → IsChosen shape home answers (chosen_of_proposals shape home answers)
-proposals shape home answers none = go (list_any (tells_slow shape home) answers) refl
+proposals : (in_quorum : ℕ → Bool) (home : ℕ) (answers : List RecoveryAnswer) → ((b : RecoveryAnswer) → IsIn b answers → b.accepted ≡ 0)
+    → IsChosen in_quorum home answers (chosen_of_proposals in_quorum home answers)
+proposals in_quorum home answers none = go (list_any (tells_slow in_quorum home) answers) refl
   where
-    go : (t : Bool) → list_any (tells_slow shape home) answers ≡ t
-        → IsChosen shape home answers (cond t (greatest_by (λ a. a.stamp.0) answers) (greatest_by (member_stamp shape home) answers))
-    go true e = let m = any_out (tells_slow shape home) answers e in let is = slow_is shape home m.0 m.2 in
+    go : (t : Bool) → list_any (tells_slow in_quorum home) answers ≡ t
+        → IsChosen in_quorum home answers (cond t (greatest_by (λ a. a.stamp.0) answers) (greatest_by (member_stamp in_quorum) answers))
+    go true e = let m = any_out (tells_slow in_quorum home) answers e in let is = slow_is in_quorum home m.0 m.2 in
         of_all none m.0 m.1 is.0 is.1 (greatest_over (λ a. a.stamp.0) answers) (greatest_of (λ a. a.stamp.0) answers)
     go false e = of_members none
-        (λ b h member. not_slow shape home b (none_in (tells_slow shape home) answers b e h) member)
-        (λ b h member. subst (λ (n : ℕ). n ≤ greatest_by (member_stamp shape home) answers) (ap (λ (t : Bool). cond t b.stamp.0 0) member) (greatest_over (member_stamp shape home) answers b h))
-        (λ some. let a = greatest_of (member_stamp shape home) answers some in let is = is_stamp shape home a.0 (greatest_by (member_stamp shape home) answers) a.2 some in (a.0, a.1, is.0, is.1))
+        (λ b h member. not_slow in_quorum home b (none_in (tells_slow in_quorum home) answers b e h) member)
+        (λ b h member. subst (λ (n : ℕ). n ≤ greatest_by (member_stamp in_quorum) answers) (ap (λ (t : Bool). cond t b.stamp.0 0) member) (greatest_over (member_stamp in_quorum) answers b h))
+        (λ some. let a = greatest_of (member_stamp in_quorum) answers some in let is = is_stamp in_quorum a.0 (greatest_by (member_stamp in_quorum) answers) a.2 some in (a.0, a.1, is.0, is.1))
 
-with_best : (shape : Shape) (home : ℕ) (answers : List RecoveryAnswer) (a : RecoveryAnswer) → IsIn a answers → ((b : RecoveryAnswer) → IsIn b answers → IsUnder b a)
-    → IsChosen shape home answers (chosen_with shape home answers (Some a))
-with_best shape home answers a here over = go (nat_lt 0 a.accepted) refl
+with_best : (in_quorum : ℕ → Bool) (home : ℕ) (answers : List RecoveryAnswer) (a : RecoveryAnswer) → IsIn a answers → ((b : RecoveryAnswer) → IsIn b answers → IsUnder b a)
+    → IsChosen in_quorum home answers (chosen_with in_quorum home answers (Some a))
+with_best in_quorum home answers a here over = go (nat_lt 0 a.accepted) refl
   where
     nothing : a.accepted ≡ 0 → (b : RecoveryAnswer) → IsUnder b a → b.accepted ≡ 0
     nothing e b (inl low) = omega arith
     nothing e b (inr same) = omega (arith, same.0)
 
-    go : (t : Bool) → nat_lt 0 a.accepted ≡ t → IsChosen shape home answers (cond t a.stamp.0 (chosen_of_proposals shape home answers))
+    go : (t : Bool) → nat_lt 0 a.accepted ≡ t → IsChosen in_quorum home answers (cond t a.stamp.0 (chosen_of_proposals in_quorum home answers))
     go true e = let some : 0 < a.accepted = grind arith in accepted a here some refl over
-    go false e = let zero' : a.accepted ≡ 0 = grind arith in proposals shape home answers (λ b h. nothing zero' b (over b h))
+    go false e = let zero' : a.accepted ≡ 0 = grind arith in proposals in_quorum home answers (λ b h. nothing zero' b (over b h))
 
 -- which case the choice took, for every list of answers
-pub choice_cases : (shape : Shape) (home : ℕ) (answers : List RecoveryAnswer) → IsChosen shape home answers (recovery_choice shape home answers)
+pub choice_cases : (in_quorum : ℕ → Bool) (home : ℕ) (answers : List RecoveryAnswer) → IsChosen in_quorum home answers (recovery_choice in_quorum home answers)
 unfolding recovery_choice
-choice_cases shape home [] = proposals shape home [] (λ b h. absurd h)
-choice_cases shape home (x ∷ xs) =
+choice_cases in_quorum home [] = proposals in_quorum home [] (λ b h. absurd h)
+choice_cases in_quorum home (x ∷ xs) =
     let best = best_of x xs in
-    subst (λ (o : Option RecoveryAnswer). IsChosen shape home (x ∷ xs) (chosen_with shape home (x ∷ xs) o)) (sym best.1) (with_best shape home (x ∷ xs) best.0 best.2 best.3)
+    subst (λ (o : Option RecoveryAnswer). IsChosen in_quorum home (x ∷ xs) (chosen_with in_quorum home (x ∷ xs) o)) (sym best.1) (with_best in_quorum home (x ∷ xs) best.0 best.2 best.3)

@@ -1,7 +1,8 @@
 ghost use Rattle.std.specs.List.{list_any};
 ghost use Rattle.std.specs.Prelude.{◌≡◌, ◌≤◌, None};
 ghost use Rattle.tp_base.specs.Lists.{Each};
-ghost use Rattle.tp_choice.specs.Choosing.{best_from, better, chosen_of_proposals, greatest_by, is_member, is_over, member_stamp, recovery_choice, tells_slow, IsChosen};
+ghost use Rattle.tp_choice.specs.Choosing.{best_from, better, chosen_of_proposals, greatest_by, is_over, member_stamp, recovery_choice, tells_slow, IsChosen};
+ghost use Rattle.tp_topology.specs.Shape.{in_ring};
 
 use crate::answer::RecoveryAnswer;
 use tp_base::{Made, Rank, Stamp};
@@ -12,8 +13,8 @@ use tp_topology::Topology;
 pub fn choose(topology: &Topology, home: Rank, answers: &[RecoveryAnswer]) -> Stamp
     requires home { (1 ≤ home.0) × (home.0 ≤ topology.now.replicas) }
     requires ranks { Each (λ a. (1 ≤ a.rank.0) × (a.rank.0 ≤ topology.now.replicas)) answers.now }
-    ensures choice { result.0 ≡ recovery_choice topology.now home.0 answers.now }
-    ensures chosen { IsChosen topology.now home.0 answers.now result.0 }
+    ensures choice { result.0 ≡ recovery_choice (in_ring topology.now home.0) home.0 answers.now }
+    ensures chosen { IsChosen (in_ring topology.now home.0) home.0 answers.now result.0 }
 {
     chosen(topology, home, answers)
 }
@@ -22,7 +23,7 @@ pub fn choose(topology: &Topology, home: Rank, answers: &[RecoveryAnswer]) -> St
 fn chosen(topology: &Topology, home: Rank, answers: &[RecoveryAnswer]) -> Stamp
     requires home { (1 ≤ home.0) × (home.0 ≤ topology.now.replicas) }
     requires ranks { Each (λ a. (1 ≤ a.rank.0) × (a.rank.0 ≤ topology.now.replicas)) answers.now }
-    ensures { result.0 ≡ recovery_choice topology.now home.0 answers.now }
+    ensures { result.0 ≡ recovery_choice (in_ring topology.now home.0) home.0 answers.now }
 {
     if let Some(best) = best(answers) {
         if 0 < best.accepted {
@@ -35,7 +36,7 @@ fn chosen(topology: &Topology, home: Rank, answers: &[RecoveryAnswer]) -> Stamp
 fn chosen_of_proposals(topology: &Topology, home: Rank, answers: &[RecoveryAnswer]) -> u64
     requires home { (1 ≤ home.0) × (home.0 ≤ topology.now.replicas) }
     requires ranks { Each (λ a. (1 ≤ a.rank.0) × (a.rank.0 ≤ topology.now.replicas)) answers.now }
-    ensures { result ≡ chosen_of_proposals topology.now home.0 answers.now }
+    ensures { result ≡ chosen_of_proposals (in_ring topology.now home.0) home.0 answers.now }
 {
     if any_tells_slow(topology, home, answers) {
         greatest_stamp(answers)
@@ -83,7 +84,7 @@ fn greatest_stamp(answers: &[RecoveryAnswer]) -> u64
 fn member_stamp(topology: &Topology, home: Rank, answer: &RecoveryAnswer) -> u64
     requires home { (1 ≤ home.0) × (home.0 ≤ topology.now.replicas) }
     requires rank { (1 ≤ answer.now.rank.0) × (answer.now.rank.0 ≤ topology.now.replicas) }
-    ensures { result ≡ member_stamp topology.now home.0 answer.now }
+    ensures { result ≡ member_stamp (in_ring topology.now home.0) answer.now }
 {
     if topology.in_fast_quorum(home, answer.rank) {
         answer.stamp.0
@@ -97,7 +98,7 @@ fn member_stamp(topology: &Topology, home: Rank, answer: &RecoveryAnswer) -> u64
 fn tells_slow(topology: &Topology, home: Rank, answer: &RecoveryAnswer) -> bool
     requires home { (1 ≤ home.0) × (home.0 ≤ topology.now.replicas) }
     requires rank { (1 ≤ answer.now.rank.0) × (answer.now.rank.0 ≤ topology.now.replicas) }
-    ensures { result ≡ tells_slow topology.now home.0 answer.now }
+    ensures { result ≡ tells_slow (in_ring topology.now home.0) home.0 answer.now }
 {
     topology.in_fast_quorum(home, answer.rank)
         && (answer.rank == home || answer.made == Made::Recovery)
@@ -106,7 +107,7 @@ fn tells_slow(topology: &Topology, home: Rank, answer: &RecoveryAnswer) -> bool
 fn greatest_member_stamp(topology: &Topology, home: Rank, answers: &[RecoveryAnswer]) -> u64
     requires home { (1 ≤ home.0) × (home.0 ≤ topology.now.replicas) }
     requires ranks { Each (λ a. (1 ≤ a.rank.0) × (a.rank.0 ≤ topology.now.replicas)) answers.now }
-    ensures { result ≡ greatest_by (member_stamp topology.now home.0) answers.now }
+    ensures { result ≡ greatest_by (member_stamp (in_ring topology.now home.0)) answers.now }
 {
     let mut top = 0;
     for answer in answers {
@@ -118,7 +119,7 @@ fn greatest_member_stamp(topology: &Topology, home: Rank, answers: &[RecoveryAns
 fn any_tells_slow(topology: &Topology, home: Rank, answers: &[RecoveryAnswer]) -> bool
     requires home { (1 ≤ home.0) × (home.0 ≤ topology.now.replicas) }
     requires ranks { Each (λ a. (1 ≤ a.rank.0) × (a.rank.0 ≤ topology.now.replicas)) answers.now }
-    ensures { result ≡ list_any (tells_slow topology.now home.0) answers.now }
+    ensures { result ≡ list_any (tells_slow (in_ring topology.now home.0) home.0) answers.now }
 {
     for answer in answers {
         if tells_slow(topology, home, answer) {

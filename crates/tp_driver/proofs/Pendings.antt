@@ -21,7 +21,7 @@ use Rattle.tp_rules.specs.Pending.{actors_of, due_item, event_by, inner_item, is
 use Rattle.tp_rules.specs.Plan.{Fate, Lost, Planned, Times, asked_of, by_time, deliveries_left, due, due_of, entries_of, fate_of, if_due, is_planned, plan_of, put_in}
 use Rattle.tp_rules.specs.Rules.{MayMake, enabled}
 use Rattle.tp_rules.specs.Runs.{FollowsFate, FollowsLine, IsFor, IsFreeHistory, IsLegal, IsLost, MayHappen, outputs_in}
-use Rattle.tp_rules.specs.Sheet.{ring_setting}
+use Rattle.tp_rules.specs.Sheet.{ring_rule}
 use Rattle.tp_rules.specs.declared.event.Entry.{Entry}
 use Rattle.tp_rules.specs.declared.event.Event.TheVariants.{Inner as OfItself}
 use Rattle.tp_rules.specs.declared.event.Inner.{Inner}
@@ -210,7 +210,7 @@ module _ (script : Script) (accepted : IsAccepted script) (older : List Entry) (
   may_make : (a : ActorName) (inner : Inner) → enabled (identity_in script a) (acts older a) ≡ Some inner
       → MayMake (identity_in script a) (acts older a) inner × (is_planned (OfItself inner) ≡ false)
   may_make (Process s) inner e =
-      let is : inner ≡ Announce = (process_may (process.state_after (ring_setting script.topology) s (acts older (Process s))) inner e).0 in
+      let is : inner ≡ Announce = (process_may (process.state_after (ring_rule script.topology) s (acts older (Process s))) inner e).0 in
       of inner is e
     where
       of : (i : Inner) → i ≡ Announce → enabled (identity_in script (Process s)) (acts older (Process s)) ≡ Some i

@@ -11,7 +11,7 @@ use Rattle.tp_rules.proofs.CarriedCommands.{Carries}
 use Rattle.tp_rules.proofs.SendsOfProcess.{stamp}
 use Rattle.tp_rules.specs.Acts.{Act, Took}
 use Rattle.tp_rules.specs.Addresses.{rank_of}
-use Rattle.tp_rules.specs.Sheet.{Proposed, Setting, Sheet}
+use Rattle.tp_rules.specs.Sheet.{Proposed, QuorumRule, Sheet}
 use Rattle.tp_rules.specs.Tables.{with_nth}
 use Rattle.tp_wire.specs.declared.message.Body.{Body}
 use Rattle.tp_wire.specs.declared.message.Body.TheVariants.{MPropose, MConsensus}
@@ -30,7 +30,7 @@ carried of m body e g = subst (λ (b : Body). Carries (λ c. c ≡ of c.id) b ×
 pub at_home : (c d : Command) (k : ℕ) → c ≡ d → c.home.0 ≡ k → d.home.0 ≡ k
 at_home c d k e h = subst (λ (x : Command). x.home.0 ≡ k) e h
 
-module _ (s : Setting) (me : Site) (of : CommandId → Command) (acts : List Act) where
+module _ (s : QuorumRule) (me : Site) (of : CommandId → Command) (acts : List Act) where
   -- a proposal on the fast path is at least the home's
   pub floor_kept : {act : Act} {id : CommandId} {old new : Sheet} {out : List Message}
       → SheetStep s me act id old new out → IsGenuine of act → HasFloor me of acts id old.proposal

@@ -20,7 +20,7 @@ use Rattle.tp_rules.proofs.SendsOfProcess.{stamp}
 use Rattle.tp_rules.specs.Acts.{Act, Took, Did}
 use Rattle.tp_rules.specs.Addresses.{is_body_at, is_name_of, rank_of}
 use Rattle.tp_rules.specs.Process.{LIMIT, Moved, ProcessState, accepted as acceptance, agreed, announced, chosen, commits, decided, finished, gathered, has_next, joined, learned, next_stamp, on_body, on_commit, on_consensus, on_consensus_ack, on_propose, on_propose_ack, on_rec_ack, on_rec_by, on_recover, on_submit, proposed, proposing, proposed_late, put_recovered, react, recovered, recovering, submitted, voted, with_room, with_sheet}
-use Rattle.tp_rules.specs.Sheet.{Setting, Sheet, acknowledged, can_accept, can_acknowledge, can_answer, can_vote, final_stamp, has_consensus, is_fresh, is_full, is_recovered, is_untouched, kept, stamp_of, with_answer, with_proposal, with_stamp, with_vote}
+use Rattle.tp_rules.specs.Sheet.{QuorumRule, Sheet, acknowledged, can_accept, can_acknowledge, can_answer, can_vote, final_stamp, has_consensus, is_fresh, is_full, is_recovered, is_untouched, kept, stamp_of, with_answer, with_proposal, with_stamp, with_vote}
 use Rattle.tp_rules.specs.declared.event.Inner.TheVariants.{Announce, Recover}
 use Rattle.tp_topology.specs.Ballots.{next_ballot}
 use Rattle.tp_topology.specs.Shape.{recovery_size, slow_size}
@@ -30,7 +30,7 @@ use Rattle.tp_wire.specs.declared.message.Message.{Message}
 use Rattle.tp_facts.proofs.StepCases.{IsFinal, untold, final, recovery_answer, greatest_acknowledged, with_acknowledgement, SheetStep, submits, submits_and_acknowledges, proposes, keeps_payload, counts_acknowledgement, decides_fast, puts_slow, accepts, counts_vote, decides_by_votes, knows_already, learns, proposes_and_answers_recovery, answers_recovery, counts_answer, puts_recovered, starts_recovery, ProcessStep, does_nothing, bumps_clock, announces, passes_commit_on, changes_sheet, attaches_proposal}
 use Rattle.tp_facts.proofs.RuleTests.{CanAcknowledge, CanAnswer, can_acknowledge_is, can_answer_is, fresh_is, is_none-some, proposed_before}
 
-module _ (s : Setting) (me : Site) (act : Act) (state : ProcessState) where
+module _ (s : QuorumRule) (me : Site) (act : Act) (state : ProcessState) where
   abbrev IsStep : Moved → Type 0
   IsStep moved = ProcessStep s me act state moved
 
@@ -65,7 +65,7 @@ module _ (s : Setting) (me : Site) (act : Act) (state : ProcessState) where
       (step (is_none-some (stamp_of sheet q) n)))
 
 -- what each kind of message does
-module _ (s : Setting) (me : Site) (m : Message) (state : ProcessState) where
+module _ (s : QuorumRule) (me : Site) (m : Message) (state : ProcessState) where
   abbrev IsTaken : Moved → Type 0
   IsTaken moved = ProcessStep s me (Took m) state moved
 
@@ -204,7 +204,7 @@ module _ (s : Setting) (me : Site) (m : Message) (state : ProcessState) where
       → CanAnswer me.partition.0 b (rank_of m.from) (state.sheets id) → (o : Option Command)
       → (state.sheets id).command ≡ o
       → length (present (with_answer (recovery_answer m t made a) (state.sheets id)).answers) ≡ recovery_size s.shape
-      → IsTaken (put_recovered s.shape me id b o (with_answer (recovery_answer m t made a) (state.sheets id)) state)
+      → IsTaken (put_recovered s me id b o (with_answer (recovery_answer m t made a) (state.sheets id)) state)
   recovered_step id t made a b e can None is enough =
       changes_sheet state.clock (omega arith) (counts_answer id t made a b e can) refl
   recovered_step id t made a b e can (Some c) is enough =
@@ -215,11 +215,11 @@ module _ (s : Setting) (me : Site) (m : Message) (state : ProcessState) where
   rec_ack_step id t made a b e =
       let old : Sheet = state.sheets id in
       let new : Sheet = with_answer (recovery_answer m t made a) old in
-      cond_both (can_answer me.partition.0 b (rank_of m.from) old) (recovered s.shape me id b new state) (state, [])
+      cond_both (can_answer me.partition.0 b (rank_of m.from) old) (recovered s me id b new state) (state, [])
       IsTaken
       (λ y.
       let can = can_answer_is me.partition.0 b (rank_of m.from) old y in
-      cond_both (is_recovered s.shape new) (put_recovered s.shape me id b new.command new state)
+      cond_both (is_recovered s.shape new) (put_recovered s me id b new.command new state)
       (with_sheet id new state, []) IsTaken
       (λ enough. recovered_step id t made a b e can old.command refl
       (eqb-true (length (present new.answers)) (recovery_size s.shape) enough))
@@ -239,7 +239,7 @@ module _ (s : Setting) (me : Site) (m : Message) (state : ProcessState) where
   body_step (MRecAck id t made a b) e = rec_ack_step id t.0 made a b e
   body_step _ e = does_nothing
 
-recover_step : (s : Setting) (me : Site) (id : CommandId) (state : ProcessState)
+recover_step : (s : QuorumRule) (me : Site) (id : CommandId) (state : ProcessState)
     → ProcessStep s me (Did (Recover id)) state (on_recover s.shape me id state)
 recover_step s me id state =
     let sheet : Sheet = state.sheets id in
@@ -255,7 +255,7 @@ recover_step s me id state =
     (λ n. does_nothing)
 
 -- each act is a step
-pub step_of_act : (s : Setting) (me : Site) (act : Act) (state : ProcessState)
+pub step_of_act : (s : QuorumRule) (me : Site) (act : Act) (state : ProcessState)
     → ProcessStep s me act state (react s me act state)
 step_of_act s me (Took m) state =
     let here : Bool =

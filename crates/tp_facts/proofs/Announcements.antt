@@ -15,14 +15,14 @@ use Rattle.tp_rules.proofs.FitPromises.{Descends}
 use Rattle.tp_rules.proofs.SendsOfProcess.{each_to}
 use Rattle.tp_rules.specs.Addresses.{executors_of}
 use Rattle.tp_rules.specs.Process.{ProcessState, announced, told, untold}
-use Rattle.tp_rules.specs.Sheet.{Setting}
+use Rattle.tp_rules.specs.Sheet.{QuorumRule}
 use Rattle.tp_wire.specs.declared.message.Body.{Body}
 use Rattle.tp_wire.specs.declared.message.Body.TheVariants.{MPromises}
 use Rattle.tp_wire.specs.declared.message.Message.{Message}
 use Rattle.tp_facts.proofs.Facts.{IsOwn, TellsPromises}
 use Rattle.tp_facts.proofs.Promises.{untold_owner}
 
-module _ (s : Setting) (me : Site) where
+module _ (s : QuorumRule) (me : Site) where
   -- one promise more is attached, above the clock
   pub own_attached : (told clock t : ℕ) (id : CommandId) (attached : List Pair) → told ≤ clock → clock < t
       → (m : Message) → IsOwn me told attached m

@@ -11,7 +11,7 @@ use Rattle.tp_ops.specs.declared.command.Command.{Command}
 use Rattle.tp_rules.proofs.SendsOfProcess.{bumps_send, stamp}
 use Rattle.tp_rules.specs.Acts.{Act}
 use Rattle.tp_rules.specs.Process.{bumps}
-use Rattle.tp_rules.specs.Sheet.{Proposed, Setting, Sheet, made_of, stamp_of, stamp_proposed, stamp_told}
+use Rattle.tp_rules.specs.Sheet.{Proposed, QuorumRule, Sheet, made_of, stamp_of, stamp_proposed, stamp_told}
 use Rattle.tp_wire.specs.declared.message.Body.{Body}
 use Rattle.tp_wire.specs.declared.message.Body.TheVariants.{MConsensus, MConsensusAck}
 use Rattle.tp_wire.specs.declared.message.Message.{Message}
@@ -53,14 +53,14 @@ old_outside sent id old b h =
     go (MConsensusAck i n) k = λ same. inl (k same)
     go _ k = tt
 
-pub bumps_outside : (s : Setting) (me : Site) (sent : List Message) (id : CommandId) (a b : ℕ) (c : Command) (t : ℕ)
+pub bumps_outside : (s : QuorumRule) (me : Site) (sent : List Message) (id : CommandId) (a b : ℕ) (c : Command) (t : ℕ)
     → Each (λ m. VotesOutside id a b m.body) sent
     → Each (λ m. VotesOutside id a b m.body) (bumps s.shape me c t ++ sent)
 bumps_outside s me sent id a b c t h =
     each_append (λ (m : Message). VotesOutside id a b m.body) (bumps s.shape me c t) sent
     (bumps_send (λ (m : Message). VotesOutside id a b m.body) me s.shape c t (λ to. tt)) h
 
-module _ (s : Setting) (me : Site) (of : CommandId → Command) (acts : List Act) (sent : List Message) where
+module _ (s : QuorumRule) (me : Site) (of : CommandId → Command) (acts : List Act) (sent : List Message) where
   -- an answer to a recovery
   pub answer_true : {id : CommandId} {old : Sheet} (act : Act) (all : List Message) (new : Sheet) (b : ℕ)
       → SheetFacts s me of acts sent id old → new.accepted_ballot ≡ old.accepted_ballot

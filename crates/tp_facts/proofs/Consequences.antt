@@ -12,7 +12,7 @@ use Rattle.tp_base.specs.declared.names.Stamp.{Stamp}
 use Rattle.tp_ops.specs.declared.command.Command.{Command}
 use Rattle.tp_rules.specs.Acts.{Act}
 use Rattle.tp_rules.specs.Process.{ProcessState}
-use Rattle.tp_rules.specs.Sheet.{Proposed, Setting}
+use Rattle.tp_rules.specs.Sheet.{Proposed, QuorumRule}
 use Rattle.tp_topology.specs.Stability.{attached_to}
 use Rattle.tp_wire.specs.declared.message.Body.{Body}
 use Rattle.tp_wire.specs.declared.message.Body.TheVariants.{MConsensus, MConsensusAck, MRecAck, MPromises}
@@ -20,7 +20,7 @@ use Rattle.tp_wire.specs.declared.message.Message.{Message}
 use Rattle.tp_facts.proofs.Facts.{IsAnswer, IsOwn, IsPut, IsTrue, IsTrueNow, ProcessFacts, PutsSame, TellsPromises, VotesOutside}
 use Rattle.tp_facts.proofs.Promises.{owner_of}
 
-module _ {s : Setting} {me : Site} {of : CommandId
+module _ {s : QuorumRule} {me : Site} {of : CommandId
     → Command} {acts : List Act} {sent : List Message} {state : ProcessState}
     (h : ProcessFacts s me of acts sent state) where
   -- what a message of a kind says is so

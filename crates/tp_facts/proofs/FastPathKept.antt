@@ -10,7 +10,7 @@ use Rattle.tp_quorum.specs.Choice.{present, is_fast}
 use Rattle.tp_rules.proofs.SendsOfProcess.{stamp}
 use Rattle.tp_rules.specs.Acts.{Act, Took}
 use Rattle.tp_rules.specs.Addresses.{rank_of}
-use Rattle.tp_rules.specs.Sheet.{Proposed, Setting, Sheet, is_made_by_proposal, is_member}
+use Rattle.tp_rules.specs.Sheet.{Proposed, QuorumRule, Sheet, is_made_by_proposal, is_member}
 use Rattle.tp_rules.specs.Tables.{kept_at, with_nth}
 use Rattle.tp_wire.specs.declared.message.Body.TheVariants.{MProposeAck}
 use Rattle.tp_wire.specs.declared.message.Message.{Message}
@@ -21,7 +21,7 @@ use Rattle.tp_facts.proofs.StepCases.{SheetStep, submits, submits_and_acknowledg
 use Rattle.tp_facts.proofs.Tables.{kept_here, kept_with, present_with, some_stays}
 use Rattle.tp_facts.proofs.RuleTests.{CanAcknowledge}
 
-module _ (s : Setting) (me : Site) (of : CommandId → Command) (acts : List Act) where
+module _ (s : QuorumRule) (me : Site) (of : CommandId → Command) (acts : List Act) where
   -- a member of the kept command's fast quorum is one of the identifier's command, and its home is here
   pub member_is : (k j : ℕ) (id : CommandId) (o : Option Command) → KeepsCommand of id o → is_member s k j o ≡ true
       → ((of id).home.0 ≡ k) × (s.in_quorum (of id) j ≡ true)

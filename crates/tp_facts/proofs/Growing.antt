@@ -7,7 +7,7 @@ use Rattle.tp_base.specs.declared.names.Site.{Site}
 use Rattle.tp_choice.specs.declared.answer.RecoveryAnswer.{RecoveryAnswer}
 use Rattle.tp_ops.specs.declared.command.Command.{Command}
 use Rattle.tp_rules.specs.Acts.{Act}
-use Rattle.tp_rules.specs.Sheet.{Proposed, Setting}
+use Rattle.tp_rules.specs.Sheet.{Proposed, QuorumRule}
 use Rattle.tp_wire.specs.declared.message.Body.{Body}
 use Rattle.tp_wire.specs.declared.message.Message.{Message}
 use Rattle.tp_facts.proofs.Facts.{WasTaken, WasTakenFrom, WasSent, HasFloor, IsAcceptor, IsAcknowledgement, IsGathered, IsAnswerOf, IsProposer, IsPutter}
@@ -29,7 +29,7 @@ pub answer_more : {acts : List Act} {id : CommandId} {b j : ℕ} (act : Act) (a 
     → IsAnswerOf acts id b j a → IsAnswerOf (act ∷ acts) id b j a
 answer_more act a h = (h.0, taken_from_more act h.1)
 
-module _ (s : Setting) (me : Site) (of : CommandId → Command) (acts : List Act) where
+module _ (s : QuorumRule) (me : Site) (of : CommandId → Command) (acts : List Act) where
   pub floor_more : (id : CommandId) (act : Act) (o : Option Proposed) → HasFloor me of acts id o
       → HasFloor me of (act ∷ acts) id o
   floor_more id act None h = tt

@@ -16,7 +16,7 @@ use Rattle.tp_rules.proofs.SendsOfProcess.{each_to}
 use Rattle.tp_rules.specs.Acts.{Act}
 use Rattle.tp_rules.specs.Addresses.{executors_of}
 use Rattle.tp_rules.specs.Process.{Moved, ProcessState, announced, start, state_after, told, untold}
-use Rattle.tp_rules.specs.Sheet.{Setting, Sheet, blank, stamp_of}
+use Rattle.tp_rules.specs.Sheet.{QuorumRule, Sheet, blank, stamp_of}
 use Rattle.tp_wire.specs.declared.message.Body.{Body}
 use Rattle.tp_wire.specs.declared.message.Body.TheVariants.{MConsensus, MConsensusAck, MPromises}
 use Rattle.tp_wire.specs.declared.message.Message.{Message}
@@ -44,7 +44,7 @@ each_sheet : (P : CommandId → Sheet → Type 0) (sheets : CommandId → Sheet)
 each_sheet P sheets id new here others other = cond_both (same_id id other) new (sheets other) (P other)
     (λ y. subst (λ (i : CommandId). P i new) (same_id_is id other y) here) (λ n. others other)
 
-module _ (s : Setting) (me : Site) (of : CommandId → Command) (here : IsHere s me) where
+module _ (s : QuorumRule) (me : Site) (of : CommandId → Command) (here : IsHere s me) where
   abbrev True : List Act → List Message → (CommandId → Sheet) → Message → Type 0
   True acts sent sheets m = IsTrueNow s me of acts sent sheets m
 

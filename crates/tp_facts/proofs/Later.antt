@@ -14,7 +14,7 @@ use Rattle.tp_topology.specs.Ballots.{owner}
 use Rattle.tp_quorum.specs.Choice.{present, greatest}
 use Rattle.tp_rules.specs.Acts.{Act}
 use Rattle.tp_rules.specs.Addresses.{accessed}
-use Rattle.tp_rules.specs.Sheet.{Proposed, Setting, Sheet, final_stamp, greatest_known, stamp_of}
+use Rattle.tp_rules.specs.Sheet.{Proposed, QuorumRule, Sheet, final_stamp, greatest_known, stamp_of}
 use Rattle.tp_rules.specs.Tables.{kept_at}
 use Rattle.tp_topology.specs.Shape.{fast_size}
 use Rattle.tp_wire.specs.declared.message.Body.{Body}
@@ -27,7 +27,7 @@ use Rattle.tp_facts.proofs.StepCases.{SheetStep, submits, submits_and_acknowledg
 use Rattle.tp_facts.proofs.Tables.{kept_stays}
 
 -- a later sheet of the same command
-pub record Later (s : Setting) (old new : Sheet) : Type 0 where
+pub record Later (s : QuorumRule) (old new : Sheet) : Type 0 where
   -- a proposal is for ever
   pub proposal : (q : Proposed) → old.proposal ≡ Some q → new.proposal ≡ Some q
   -- ballots rise
@@ -48,7 +48,7 @@ IsNew id old (MConsensusAck i n) = i ≡ id → old.ballot ≤ n
 IsNew id old (MConsensus c x n) = c.id ≡ id → old.putting_ballot < n
 IsNew id old _ = Unit {0}
 
-module _ (s : Setting) (me : Site) (of : CommandId → Command) (acts : List Act) where
+module _ (s : QuorumRule) (me : Site) (of : CommandId → Command) (acts : List Act) where
   proposal_later : {act : Act} {id : CommandId} {old new : Sheet} {out : List Message}
       → SheetStep s me act id old new out → (q : Proposed) → old.proposal ≡ Some q → new.proposal ≡ Some q
   proposal_later (submits c t e home fresh) q some = absurd cc
@@ -122,7 +122,7 @@ module _ (s : Setting) (me : Site) (of : CommandId → Command) (acts : List Act
     known = known_later step;
   }
 
-pub later_self : {s : Setting} (sheet : Sheet) → Later s sheet sheet
+pub later_self : {s : QuorumRule} (sheet : Sheet) → Later s sheet sheet
 later_self sheet = record {
   proposal = λ q e. e;
   ballot = omega arith;
@@ -153,7 +153,7 @@ all_known stamps t =
     (λ (o : Option ℕ). o ≡ Some t → list_all is_some stamps ≡ true)
     (λ y e. y) (λ n e. absurd cc)
 
-final_stays : (s : Setting) (old new : Sheet) (c : Command) (t : ℕ) → Later s old new
+final_stays : (s : QuorumRule) (old new : Sheet) (c : Command) (t : ℕ) → Later s old new
     → final_stamp s.shape old (Some c) ≡ Some t → final_stamp s.shape new (Some c) ≡ Some t
 final_stays s old new c t later e =
     let all = all_known (map (stamp_of old) (accessed s.shape c)) t e in
@@ -167,7 +167,7 @@ pub each_body : (P Q : Body → Type 0) → ((body : Body) → P body → Q body
 each_body P Q weaker list h =
     each_weaker (λ (m : Message). P m.body) (λ (m : Message). Q m.body) (λ m k. weaker m.body k) list h
 
-module _ (s : Setting) (me : Site) (of : CommandId → Command) (acts : List Act) (sent : List Message) (act : Act)
+module _ (s : QuorumRule) (me : Site) (of : CommandId → Command) (acts : List Act) (sent : List Message) (act : Act)
     (out : List Message)
     (id : CommandId) (old new : Sheet) (goes : Later s old new) where
   -- a full table of acknowledgements stays

@@ -16,7 +16,7 @@ use Rattle.tp_rules.proofs.UpTo.{in_up_to}
 use Rattle.tp_rules.specs.Acts.{Act, Took}
 use Rattle.tp_rules.specs.Addresses.{message, processes_of, rank_of, site}
 use Rattle.tp_rules.specs.Process.{put_to_vote}
-use Rattle.tp_rules.specs.Sheet.{Setting, Sheet, is_member}
+use Rattle.tp_rules.specs.Sheet.{QuorumRule, Sheet, is_member}
 use Rattle.tp_rules.specs.Tables.{with_nth}
 use Rattle.tp_topology.specs.Ballots.{next_ballot}
 use Rattle.tp_topology.specs.Counting.{up_to}
@@ -27,7 +27,7 @@ use Rattle.tp_facts.proofs.Growing.{answer_more, proposer_more, putter_more, tak
 use Rattle.tp_facts.proofs.StepCases.{SheetStep, puts_slow, counts_vote, decides_by_votes, counts_answer, puts_recovered, starts_recovery, recovery_answer}
 use Rattle.tp_facts.proofs.Tables.{kept_replicate, kept_with, nth_replicate, nth_with}
 
-module _ (s : Setting) (me : Site) (of : CommandId → Command) (acts : List Act) where
+module _ (s : QuorumRule) (me : Site) (of : CommandId → Command) (acts : List Act) where
   next_above : (own tried : ℕ) → max s.shape.replicas (max own tried) < next_ballot s.shape me.rank.0 own tried
   next_above own tried = omega arith
 

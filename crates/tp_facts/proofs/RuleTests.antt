@@ -8,13 +8,13 @@ use Rattle.std.specs.Prelude.{is_none, is_some, nat_lt, not, ◌==◌, ◌&&◌}
 use Rattle.tp_base.proofs.Options.{none_of}
 use Rattle.tp_quorum.specs.Choice.{present}
 use Rattle.tp_quorum.specs.Choice.{present}
-use Rattle.tp_rules.specs.Sheet.{Setting, Sheet, can_acknowledge, can_answer, is_fresh, is_made_by_proposal, is_member, stamp_of}
-use Rattle.tp_rules.specs.Sheet.{Setting, Sheet, is_made_by_proposal, is_member, stamp_of}
+use Rattle.tp_rules.specs.Sheet.{QuorumRule, Sheet, can_acknowledge, can_answer, is_fresh, is_made_by_proposal, is_member, stamp_of}
+use Rattle.tp_rules.specs.Sheet.{QuorumRule, Sheet, is_made_by_proposal, is_member, stamp_of}
 use Rattle.tp_rules.specs.Tables.{kept_at}
 use Rattle.tp_topology.specs.Shape.{fast_size}
 
 -- an acknowledgement that counts: from the fast quorum, which is not full yet, to a home on the fast path
-pub record CanAcknowledge (s : Setting) (p own rank : ℕ) (sheet : Sheet) : Type 0 where
+pub record CanAcknowledge (s : QuorumRule) (p own rank : ℕ) (sheet : Sheet) : Type 0 where
   pub member : is_member s own rank sheet.command ≡ true
   pub made : is_made_by_proposal sheet.proposal ≡ true
   pub ballot : sheet.ballot ≡ 0
@@ -34,7 +34,7 @@ fresh_is p sheet t =
     let a = and_parts (is_none sheet.proposal && (sheet.ballot == 0)) (is_none (stamp_of sheet p)) t in
     none_of sheet.proposal (and_parts (is_none sheet.proposal) (sheet.ballot == 0) a.0).0
 
-pub can_acknowledge_is : (s : Setting) (p own rank : ℕ) (sheet : Sheet) → can_acknowledge s p own rank sheet ≡ true
+pub can_acknowledge_is : (s : QuorumRule) (p own rank : ℕ) (sheet : Sheet) → can_acknowledge s p own rank sheet ≡ true
     → CanAcknowledge s p own rank sheet
 can_acknowledge_is s p own rank sheet t =
     let a = and_parts _ (nat_lt (length (present sheet.acknowledged)) (fast_size s.shape)) t in

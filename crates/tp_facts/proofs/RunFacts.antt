@@ -24,7 +24,7 @@ use Rattle.tp_rules.specs.Journal.{acts, IsSent}
 use Rattle.tp_rules.specs.Journal.{acts}
 use Rattle.tp_rules.specs.Process.{state_after}
 use Rattle.tp_rules.specs.Runs.{IsFreeHistory}
-use Rattle.tp_rules.specs.Sheet.{ring_setting}
+use Rattle.tp_rules.specs.Sheet.{ring_rule}
 use Rattle.tp_rules.specs.declared.event.Entry.{Entry}
 use Rattle.tp_script.specs.Accepted.{IsAccepted}
 use Rattle.tp_script.specs.declared.script.Script.{Script}
@@ -45,9 +45,9 @@ NamesCommands script of = (c : Command) → IsIn c script.commands → c ≡ of 
 
 -- the facts of a process at the end of a journal
 abbrev pub FactsAt : Script → (CommandId → Command) → List Entry → Site → Type 0
-FactsAt script of older me = ProcessFacts (ring_setting script.topology) me of (acts older (Process me))
-    (sent_by (ring_setting script.topology) me (acts older (Process me)))
-    (state_after (ring_setting script.topology) me (acts older (Process me)))
+FactsAt script of older me = ProcessFacts (ring_rule script.topology) me of (acts older (Process me))
+    (sent_by (ring_rule script.topology) me (acts older (Process me)))
+    (state_after (ring_rule script.topology) me (acts older (Process me)))
 
 -- what goes about in a run is genuine: it carries commands of the script, and ballots in range
 
@@ -70,7 +70,7 @@ act_genuine script of one (Took m) fit = body_genuine script of one m.from m.to 
 act_genuine script of one (Did inner) fit = tt
 
 site_here : (script : Script) (me : Site) → IsShape script.topology → is_site_of script.topology me ≡ true
-    → IsHere (ring_setting script.topology) me
+    → IsHere (ring_rule script.topology) me
 site_here script me shape is =
     let both = site_is script.topology me is in
     record { rank = both.1; partition = both.0; two = omega (arith, shape.some_replicas, shape.some_failure) }
@@ -83,7 +83,7 @@ module _ (script : Script) (of : CommandId → Command) (accepted : IsAccepted s
       let passes = history_passes script (IsFit script) (fit_handed_on script accepted) older history in
       let fits : Each (IsFitAct script) (acts older (Process me)) =
       acts_pass script (IsFit script) older (Process me) passes in
-      facts_hold (ring_setting script.topology) me of (site_here script me accepted.shape is) (acts older (Process me))
+      facts_hold (ring_rule script.topology) me of (site_here script me accepted.shape is) (acts older (Process me))
       (each_weaker (IsFitAct script) (IsGenuine of) (act_genuine script of one) (acts older (Process me)) fits)
 
   both_same : (j k : Site) → j.partition.0 ≡ k.partition.0 → j.rank.0 ≡ k.rank.0 → same_site j k ≡ true
@@ -105,6 +105,6 @@ module _ (script : Script) (of : CommandId → Command) (accepted : IsAccepted s
         | inr low ↦ sym (put_j.first low).0 ∙ (put_k.first low).0
       ] in
       let site : j ≡ k = same_site_is j k (both_same j k same_partition rank) in
-      let by : IsIn m (sent_by (ring_setting script.topology) k (acts older (Process k))) =
-      subst (λ (s : Site). IsIn m (sent_by (ring_setting script.topology) s (acts older (Process s)))) site by_j in
+      let by : IsIn m (sent_by (ring_rule script.topology) k (acts older (Process k))) =
+      subst (λ (s : Site). IsIn m (sent_by (ring_rule script.topology) s (acts older (Process s)))) site by_j in
       one_stamp facts_k m n c d t u b by by_k e f same

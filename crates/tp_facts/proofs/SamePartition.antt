@@ -21,7 +21,7 @@ use Rattle.tp_rules.specs.Journal.{acts, IsSent}
 use Rattle.tp_rules.specs.Journal.{acts, IsSent}
 use Rattle.tp_rules.specs.Process.{Moved, ProcessState, announced, asked, bumps, commits, proposals, put_to_vote, state_after, told, untold}
 use Rattle.tp_rules.specs.Runs.{IsFreeHistory}
-use Rattle.tp_rules.specs.Sheet.{Setting, Sheet, ring_setting}
+use Rattle.tp_rules.specs.Sheet.{QuorumRule, Sheet, ring_rule}
 use Rattle.tp_rules.specs.declared.event.Entry.{Entry}
 use Rattle.tp_script.specs.declared.script.Script.{Script}
 use Rattle.tp_topology.specs.Counting.{up_to}
@@ -53,7 +53,7 @@ abbrev TakesNear : Site → Act → Type 0
 TakesNear me (Took m) = (m.to ≡ Process me) × IsNear m
 TakesNear me (Did inner) = Unit {0}
 
-module _ (s : Setting) (me : Site) where
+module _ (s : QuorumRule) (me : Site) where
   -- the answer to what was taken goes back to the partition
   back_near : (m : Message) {body : Body} → TakesNear me (Took m) → m.body ≡ body → IsPeer body
       → partition_of (Process me) ≡ partition_of m.from
@@ -152,7 +152,7 @@ near script (e ∷ older) history m (inl here) = λ peer.
     by_process k from rest =
         let mine = sent_by_process script (e ∷ older) history k m (inl here) from in
         let takes = each_of (TakesNear k) (acts (e ∷ older) (Process k)) (λ act there. took act there) in
-        each_in IsNear _ m (sent_near (ring_setting script.topology) k (acts (e ∷ older) (Process k)) takes) mine
+        each_in IsNear _ m (sent_near (ring_rule script.topology) k (acts (e ∷ older) (Process k)) takes) mine
       where
         took : (act : Act) → IsIn act (acts (e ∷ older) (Process k)) → TakesNear k act
         took (Took n) there = let t = sent_before script (e ∷ older) history (Process k) n there in (t.1, rest n t.0)

@@ -35,8 +35,8 @@ use Rattle.tp_rules.specs.Runs.{FollowsRules, outputs_by}
 use Rattle.tp_rules.specs.Runs.{IsFreeHistory, outputs_by}
 use Rattle.tp_rules.specs.Runs.{IsFreeHistory}
 use Rattle.tp_rules.specs.Session as session
-use Rattle.tp_rules.specs.Sheet.{Setting, ring_setting}
-use Rattle.tp_rules.specs.Sheet.{ring_setting}
+use Rattle.tp_rules.specs.Sheet.{QuorumRule, ring_rule}
+use Rattle.tp_rules.specs.Sheet.{ring_rule}
 use Rattle.tp_rules.specs.Tables.{nth}
 use Rattle.tp_rules.specs.declared.event.Entry.{Entry}
 use Rattle.tp_rules.specs.declared.event.Inner.TheVariants.{Submit, Declare, Execute}
@@ -66,7 +66,7 @@ may_send (Process s) _ = true
 abbrev pub IsFrom : ActorName → Message → Type 0
 IsFrom a m = (m.from ≡ a) × (may_send a m.body ≡ true)
 
-body_sends : (s : Setting) (me : Site) (from : ActorName) (body : Body) (state : process.ProcessState)
+body_sends : (s : QuorumRule) (me : Site) (from : ActorName) (body : Body) (state : process.ProcessState)
     → EachSent (IsFrom (Process me)) (process.on_body s me from body state)
 body_sends s me from (MSubmit c) state =
     on_submit_sends (IsFrom (Process me)) me s c state (λ to t. (refl, refl)) (λ to. (refl, refl))
@@ -90,7 +90,7 @@ body_sends s me from (MRecAck id t made a b) state =
     on_rec_ack_sends (IsFrom (Process me)) me s from id t.0 made a b state (λ c to t e. (refl, refl))
 body_sends s me from _ state = tt
 
-process_sends : (s : Setting) (me : Site) (act : Act) (state : process.ProcessState)
+process_sends : (s : QuorumRule) (me : Site) (act : Act) (state : process.ProcessState)
     → Each (IsFrom (Process me)) (process.react s me act state).1
 process_sends s me (Took m) state =
     let moved = process.on_body s me m.from m.body state in
@@ -139,7 +139,7 @@ session_sends shape client (Did _) state = tt
 actor_sends : (script : Script) (a : ActorName) (before : List Act) (act : Act)
     → Each (IsFrom a) (outputs_of (identity_in script a) before act)
 actor_sends script (Process s) before act =
-    process_sends (ring_setting script.topology) s act (process.state_after (ring_setting script.topology) s before)
+    process_sends (ring_rule script.topology) s act (process.state_after (ring_rule script.topology) s before)
 actor_sends script (Executor s) before act =
     executor_sends script.topology s act (executor.state_after script.topology s before)
 actor_sends script (Session s) before act =
@@ -190,7 +190,7 @@ sender_of script (e ∷ older) history m (inl here) h =
 module _ (script : Script) where
   -- what a process has sent by a list of acts
   abbrev SentBy : Site → List Act → List Message
-  SentBy me list = sent_by (ring_setting script.topology) me list
+  SentBy me list = sent_by (ring_rule script.topology) me list
 
   -- an output of a process
   output_by_process : (older : List Entry) (e : Entry) (me : Site) (m : Message) → FollowsRules script older e

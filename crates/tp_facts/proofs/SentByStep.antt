@@ -15,7 +15,7 @@ use Rattle.tp_rules.proofs.SendsOfProcess.{bumps_send, commits_send, each_to, pr
 use Rattle.tp_rules.specs.Acts.{Act, Took}
 use Rattle.tp_rules.specs.Addresses.{rank_of}
 use Rattle.tp_rules.specs.Process.{asked, bumps, commits, proposals, put_to_vote}
-use Rattle.tp_rules.specs.Sheet.{Setting, Sheet, command_or}
+use Rattle.tp_rules.specs.Sheet.{QuorumRule, Sheet, command_or}
 use Rattle.tp_topology.specs.Ballots.{next_ballot}
 use Rattle.tp_wire.specs.declared.message.Body.{Body}
 use Rattle.tp_wire.specs.declared.message.Body.TheVariants.{MSubmit, MConsensus, MConsensusAck, MRec, MPromises}
@@ -49,7 +49,7 @@ no_announcement id old told attached (MPromises lo hi pairs) h = absurd h
 no_announcement id old told attached _ h = tt
 
 -- a message of the process that is true and new
-pub record IsSound (s : Setting) (me : Site) (of : CommandId → Command) (acts : List Act) (all : List Message)
+pub record IsSound (s : QuorumRule) (me : Site) (of : CommandId → Command) (acts : List Act) (all : List Message)
     (id : CommandId) (old new : Sheet) (m : Message) : Type 0 where
   pub true : IsTrue s me of acts all id new m.body
   pub from : m.from ≡ Process me
@@ -60,7 +60,7 @@ kept_is : (of : CommandId → Command) (id : CommandId) (o : Option Command) (c 
     → o ≡ Some c → IsCommandOf of id c
 kept_is of id o c h e = subst (λ (x : Option _). KeepsCommand of id x) e h
 
-module _ (s : Setting) (me : Site) (of : CommandId → Command) (acts : List Act) (sent : List Message)
+module _ (s : QuorumRule) (me : Site) (of : CommandId → Command) (acts : List Act) (sent : List Message)
     (here : IsHere s me) where
   abbrev Sound : Act → List Message → CommandId → Sheet → Sheet → Message → Type 0
   Sound act out id old new m = IsSound s me of (act ∷ acts) (out ++ sent) id old new m
@@ -235,7 +235,7 @@ module _ (s : Setting) (me : Site) (of : CommandId → Command) (acts : List Act
       )
   sent_sound {act = act} {old = old} {new = new} {out = out} (puts_recovered {m} id t made a b c e can is enough) g h k
       goes before =
-      let top : ℕ = recovery_choice s.shape c.home.0 (present new.answers) in
+      let top : ℕ = recovery_choice (s.in_quorum c) c.home.0 (present new.answers) in
       let command : IsCommandOf of id c = kept_is of id old.command c h.command is in
       let own = recovers_above s me of acts h.proposer can.tried (carried of m _ e g).1 in
       let above : old.putting_ballot < b =
@@ -257,7 +257,7 @@ module _ (s : Setting) (me : Site) (of : CommandId → Command) (acts : List Act
                 answers =
                     λ j x kept. subst (λ (n : ℕ). IsAnswerOf (act ∷ acts) id n j x) can.tried
                     (k.proposer.answers j x kept);
-                choice = ap (λ (x : Command). recovery_choice s.shape x.home.0 (present new.answers)) command.0;
+                choice = ap (λ (x : Command). recovery_choice (s.in_quorum x) x.home.0 (present new.answers)) command.0;
               },
             );
           },

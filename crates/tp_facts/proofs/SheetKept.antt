@@ -11,7 +11,7 @@ use Rattle.tp_quorum.specs.Choice.{present, greatest}
 use Rattle.tp_rules.proofs.SendsOfProcess.{stamp}
 use Rattle.tp_rules.specs.Acts.{Act}
 use Rattle.tp_rules.specs.Addresses.{rank_of}
-use Rattle.tp_rules.specs.Sheet.{Setting, Sheet, blank}
+use Rattle.tp_rules.specs.Sheet.{QuorumRule, Sheet, blank}
 use Rattle.tp_rules.specs.Tables.{kept_at}
 use Rattle.tp_wire.specs.declared.message.Body.TheVariants.{MConsensus, MCommit}
 use Rattle.tp_wire.specs.declared.message.Message.{Message}
@@ -24,7 +24,7 @@ use Rattle.tp_facts.proofs.RecoveryKept.{proposer_kept, putter_kept}
 use Rattle.tp_facts.proofs.StepCases.{SheetStep, decides_fast, decides_by_votes, learns}
 use Rattle.tp_facts.proofs.Tables.{kept_replicate, kept_with, length_with, nth_replicate, present_none}
 
-module _ (s : Setting) (me : Site) (of : CommandId → Command) (here : IsHere s me) where
+module _ (s : QuorumRule) (me : Site) (of : CommandId → Command) (here : IsHere s me) where
   -- each stamp that is known was decided here, or taken from a commit
   known_kept : {act : Act} {id : CommandId} {old new : Sheet} {out : List Message} (acts : List Act)
       (sent : List Message) → SheetStep s me act id old new out → IsGenuine of act → Later s old new

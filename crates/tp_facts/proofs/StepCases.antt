@@ -17,7 +17,7 @@ use Rattle.tp_rules.proofs.SendsOfProcess.{stamp}
 use Rattle.tp_rules.specs.Acts.{Act, Took, Did}
 use Rattle.tp_rules.specs.Addresses.{message, rank_of}
 use Rattle.tp_rules.specs.Process.{Moved, ProcessState, announced, answer, asked, bumps, commits, proposals, put_to_vote, told}
-use Rattle.tp_rules.specs.Sheet.{Setting, Sheet, acknowledged, command_or, final_stamp, is_full, kept, putting, stamp_of, trying, with_accepted, with_answer, with_ballot, with_proposal, with_stamp, with_vote}
+use Rattle.tp_rules.specs.Sheet.{QuorumRule, Sheet, acknowledged, command_or, final_stamp, is_full, kept, putting, stamp_of, trying, with_accepted, with_answer, with_ballot, with_proposal, with_stamp, with_vote}
 use Rattle.tp_rules.specs.declared.event.Inner.TheVariants.{Recover}
 use Rattle.tp_topology.specs.Ballots.{next_ballot}
 use Rattle.tp_topology.specs.Shape.{Shape, recovery_size, slow_size}
@@ -44,8 +44,8 @@ abbrev pub with_recovery_answer : Message → ℕ → Made → ℕ → Sheet →
 with_recovery_answer m t made a sheet = with_answer (recovery_answer m t made a) sheet
 
 -- the stamp that a recovery puts
-abbrev pub chosen_stamp : Shape → Command → Sheet → ℕ
-chosen_stamp shape c sheet = recovery_choice shape c.home.0 (present sheet.answers)
+abbrev pub chosen_stamp : QuorumRule → Command → Sheet → ℕ
+chosen_stamp s c sheet = recovery_choice (s.in_quorum c) c.home.0 (present sheet.answers)
 
 -- an acknowledgement, as it is counted
 abbrev pub with_acknowledgement : Message → ℕ → Sheet → Sheet
@@ -56,7 +56,7 @@ abbrev pub greatest_acknowledged : Sheet → ℕ
 greatest_acknowledged sheet = greatest (present sheet.acknowledged)
 
 -- what one step does to the sheet of one command, and what it sends
-pub data SheetStep (s : Setting) (me : Site) : Act → CommandId → Sheet → Sheet → List Message → Type 0 where
+pub data SheetStep (s : QuorumRule) (me : Site) : Act → CommandId → Sheet → Sheet → List Message → Type 0 where
   -- the home proposes a command that a session submitted
   submits : {m : Message} {old : Sheet} (c : Command) (t : ℕ) → m.body ≡ MSubmit c → c.home.0 ≡ me.rank.0
       → old.proposal ≡ None
@@ -148,9 +148,9 @@ pub data SheetStep (s : Setting) (me : Site) : Act → CommandId → Sheet → S
       → m.body ≡ MRecAck id (stamp t) made a b → CanAnswer me.partition.0 b (rank_of m.from) old
       → old.command ≡ Some c → length (present (with_recovery_answer m t made a old).answers) ≡ recovery_size s.shape
       → SheetStep s me (Took m) id old
-      (putting s.shape b (chosen_stamp s.shape c (with_recovery_answer m t made a old))
+      (putting s.shape b (chosen_stamp s c (with_recovery_answer m t made a old))
       (with_recovery_answer m t made a old))
-      (put_to_vote s.shape me b (chosen_stamp s.shape c (with_recovery_answer m t made a old)) (Some c))
+      (put_to_vote s.shape me b (chosen_stamp s c (with_recovery_answer m t made a old)) (Some c))
   -- a process begins to recover a command at a ballot of its own
   starts_recovery : {old : Sheet} (id : CommandId) → is_some old.command ≡ true → stamp_of old me.partition.0 ≡ None
       → SheetStep s me (Did (Recover id)) id old
@@ -158,7 +158,7 @@ pub data SheetStep (s : Setting) (me : Site) : Act → CommandId → Sheet → S
       (asked s.shape me (next_ballot s.shape me.rank.0 old.ballot old.tried) old.command)
 
 -- what one step does to the process, and what it sends
-pub data ProcessStep (s : Setting) (me : Site) (act : Act) (state : ProcessState) : Moved → Type 0 where
+pub data ProcessStep (s : QuorumRule) (me : Site) (act : Act) (state : ProcessState) : Moved → Type 0 where
   does_nothing : ProcessStep s me act state (state, [])
   bumps_clock : (clock : ℕ) → state.clock ≤ clock
       → ProcessStep s me act state

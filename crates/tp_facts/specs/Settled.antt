@@ -7,7 +7,7 @@ use Rattle.tp_base.specs.declared.names.CommandId.{CommandId}
 use Rattle.tp_rules.specs.Addresses.{site}
 use Rattle.tp_rules.specs.Journal.{acts}
 use Rattle.tp_rules.specs.Outcome.{Commit, commits, command_of, accesses}
-use Rattle.tp_rules.specs.Sheet.{Sheet, Proposed, ring_setting}
+use Rattle.tp_rules.specs.Sheet.{Sheet, Proposed, ring_rule}
 use Rattle.tp_rules.specs.declared.event.Entry.{Entry}
 use Rattle.tp_script.specs.declared.script.Script.{Script}
 use Rattle.tp_topology.specs.Counting.{count_up_to}
@@ -23,7 +23,7 @@ is_proposed (Some p) s = nat_le p.stamp s
 abbrev pub sheet_at : Script → List Entry → ℕ → ℕ → CommandId → Sheet
 sheet_at script whole p rank id =
     let before = acts whole (Process (site p rank)) in
-    (process.state_after (ring_setting script.topology) (site p rank) before).sheets id
+    (process.state_after (ring_rule script.topology) (site p rank) before).sheets id
 
 pub record Settled (script : Script) (whole : List Entry) : Type 0 where
   -- one stamp for each command

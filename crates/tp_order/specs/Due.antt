@@ -10,7 +10,7 @@ use Rattle.tp_base.specs.declared.names.Site.{Site}
 use Rattle.tp_rules.specs.Addresses.{site}
 use Rattle.tp_rules.specs.Journal.{acts, IsSent}
 use Rattle.tp_rules.specs.Outcome.{Commit, commits, executions, command_of, accesses, key_in}
-use Rattle.tp_rules.specs.Sheet.{ring_setting}
+use Rattle.tp_rules.specs.Sheet.{ring_rule}
 use Rattle.tp_rules.specs.declared.event.Entry.{Entry}
 use Rattle.tp_script.specs.declared.script.Script.{Script}
 use Rattle.tp_topology.specs.Stability.{attached_to}
@@ -31,8 +31,8 @@ final_key whole id = key_in (commits whole) id
 -- the command that a number of a process is attached to in the end, if any
 abbrev pub final_owner : Script → List Entry → ℕ → ℕ → ℕ → Option CommandId
 final_owner script whole p rank n =
-    let setting = ring_setting script.topology in
-    attached_to (process.state_after setting (site p rank) (acts whole (Process (site p rank)))).attached n
+    let quorum_rule = ring_rule script.topology in
+    attached_to (process.state_after quorum_rule (site p rank) (acts whole (Process (site p rank)))).attached n
 
 -- a part of a journal: whatever was sent in it was sent in the whole
 abbrev pub IsWithin : List Entry → List Entry → Type 0

@@ -18,13 +18,13 @@ use Rattle.tp_process.specs.State.{Agrees, IsHomed, IsLow, site_sheet}
 use Rattle.tp_quorum.specs.Choice.{present}
 use Rattle.tp_rules.specs.Addresses.{is_between, site as site_of}
 use Rattle.tp_rules.specs.Process.{LIMIT, Moved, ProcessState, on_rec_ack, put_recovered, put_to_vote, with_sheet}
-use Rattle.tp_rules.specs.Sheet.{Sheet, can_answer, is_recovered, putting, ring_setting, with_answer}
+use Rattle.tp_rules.specs.Sheet.{Sheet, can_answer, is_recovered, putting, ring_rule, with_answer}
 use Rattle.tp_sheet.specs.SiteSheet.{SiteSheet, home_of, putting_at, recovery_by, recovery_of, with_answer_of}
-use Rattle.tp_topology.specs.Shape.{Shape}
+use Rattle.tp_topology.specs.Shape.{Shape, in_ring}
 
 -- the row of the rules for a rank of the shape
 abbrev pub counted_answer : Shape → Site → RecoveryAnswer → CommandId → ℕ → ProcessState → Moved
-counted_answer shape me a id b s = on_rec_ack (ring_setting shape) me (Process (site_of 0 a.rank.0)) id a.stamp.0 a.made a.accepted b s
+counted_answer shape me a id b s = on_rec_ack (ring_rule shape) me (Process (site_of 0 a.rank.0)) id a.stamp.0 a.made a.accepted b s
 
 -- by whether the rank is one, its answer counts, and a quorum has answered with it, for the command that is kept
 module _ (shape : Shape) (me : Site) (id : CommandId) (ballot : ℕ) (sheet answers : Sheet) (s : ProcessState) where
@@ -35,10 +35,10 @@ module _ (shape : Shape) (me : Site) (id : CommandId) (ballot : ℕ) (sheet answ
   sheet_if b f o = cond b (putting_at shape ballot (choice_if b f o) answers) sheet
 
   abbrev row_if : Bool → Bool → Option Command → Moved
-  row_if b f o = cond {A = Moved} b (cond {A = Moved} f (put_recovered shape me id ballot o answers s) (with_sheet id answers s, [])) (s, [])
+  row_if b f o = cond {A = Moved} b (cond {A = Moved} f (put_recovered (ring_rule shape) me id ballot o answers s) (with_sheet id answers s, [])) (s, [])
 
   abbrev chosen : Command → ℕ
-  chosen c = recovery_choice shape c.home.0 (present answers.answers)
+  chosen c = recovery_choice (in_ring shape c.home.0) c.home.0 (present answers.answers)
 
   -- what a command whose home is in the shape leads to
   choice_is : (c : Command) → IsHomed shape (Some c) → recovery_of shape answers (home_of shape (Some c)) ≡ Some (chosen c)
@@ -47,7 +47,7 @@ module _ (shape : Shape) (me : Site) (id : CommandId) (ballot : ℕ) (sheet answ
   some_if : (w b f : Bool) (o : Option Command) (t : ℕ) → w ≡ true → IsHomed shape o → choice_if (w && b) f o ≡ Some t
       → (row_if b f o ≡ (with_sheet id (putting shape ballot t answers) s, put_to_vote shape me ballot t o))
       × (sheet_if (w && b) f o ≡ putting shape ballot t answers)
-      × ((home : ℕ) × (recovery_choice shape home (present answers.answers) ≡ t))
+      × ((home : ℕ) × (recovery_choice (in_ring shape home) home (present answers.answers) ≡ t))
   some_if true true true (Some c) t within homed e =
       let both : Some (chosen c) ≡ Some t = sym (choice_is c homed) ∙ e in
       let same : chosen c ≡ t = cc in (
@@ -99,7 +99,7 @@ module _ {S : Type 0} (shape : Shape) (me : Site) (clock told : ℕ) (pairs : Li
       × Agrees shape me clock told pairs new (with_sheet id (putting shape b t answers) s)
   answers_some t e =
       let all = some_if shape me id b old answers s (is_between a.rank.0 shape.replicas) can (is_recovered shape answers) answers.command t within low.home (by_sheet (Some t) e) in
-      let lt : t < LIMIT = subst (λ (n : ℕ). n < LIMIT) all.2.1 (recovery_low shape all.2.0 answers.answers low.answers) in (
+      let lt : t < LIMIT = subst (λ (n : ℕ). n < LIMIT) all.2.1 (recovery_low (in_ring shape all.2.0) all.2.0 answers.answers low.answers) in (
         all.0,
         keeps_now (putting shape b t answers) (ap (λ (kept : Sheet). site_sheet shape me kept) all.1) (putting_low shape b t answers lt low),
       )

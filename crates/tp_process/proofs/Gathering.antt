@@ -12,13 +12,13 @@ use Rattle.tp_quorum.specs.declared.choice.FastChoice.{FastChoice}
 use Rattle.tp_quorum.specs.declared.choice.FastChoice.TheVariants.{Fast, Slow}
 use Rattle.tp_rules.specs.Addresses.{is_between, site as site_of}
 use Rattle.tp_rules.specs.Process.{LIMIT, Moved, ProcessState, chosen, decided, on_propose_ack, put_to_vote, with_sheet}
-use Rattle.tp_rules.specs.Sheet.{Sheet, acknowledged, can_acknowledge, is_full, putting, ring_setting}
+use Rattle.tp_rules.specs.Sheet.{Sheet, acknowledged, can_acknowledge, is_full, putting, ring_rule}
 use Rattle.tp_sheet.specs.SiteSheet.{choice_by, put_by, with_acknowledgement}
 use Rattle.tp_topology.specs.Shape.{Shape}
 
 -- the row of the rules for a rank of the shape
 abbrev pub counted : Shape → Site → ℕ → CommandId → ℕ → ProcessState → Moved
-counted shape me rank id t s = on_propose_ack (ring_setting shape) me (Process (site_of 0 rank)) id t s
+counted shape me rank id t s = on_propose_ack (ring_rule shape) me (Process (site_of 0 rank)) id t s
 
 module _ (shape : Shape) (me : Site) (id : CommandId) (sheet acked : Sheet) (s : ProcessState) where
   abbrev choice_if : Bool → Bool → FastChoice → Option FastChoice
@@ -28,7 +28,7 @@ module _ (shape : Shape) (me : Site) (id : CommandId) (sheet acked : Sheet) (s :
   sheet_if b f choice = cond b (put_by shape me.rank.0 (choice_if b f choice) acked) sheet
 
   abbrev row_if : Bool → Bool → FastChoice → Moved
-  row_if b f choice = cond {A = Moved} b (cond {A = Moved} f (chosen (ring_setting shape) me id choice acked s) (with_sheet id acked s, [])) (s, [])
+  row_if b f choice = cond {A = Moved} b (cond {A = Moved} f (chosen (ring_rule shape) me id choice acked s) (with_sheet id acked s, [])) (s, [])
 
   fast_if : (w b f : Bool) (choice : FastChoice) (top : Stamp) → w ≡ true → choice_if (w && b) f choice ≡ Some (Fast top)
       → (row_if b f choice ≡ decided shape me id top.0 acked s) × (sheet_if (w && b) f choice ≡ acked) × (choice ≡ Fast top)
@@ -93,7 +93,7 @@ module _ (shape : Shape) (me : Site) (rank t : ℕ) (id : CommandId) (s : Proces
   acked = acknowledged rank t sheet
 
   abbrev can : Bool
-  can = can_acknowledge (ring_setting shape) me.partition.0 me.rank.0 rank sheet
+  can = can_acknowledge (ring_rule shape) me.partition.0 me.rank.0 rank sheet
 
   abbrev best : FastChoice
   best = fast_choice shape (present acked.acknowledged)

@@ -14,7 +14,7 @@ use Rattle.tp_process.proofs.LowStamps.{blank_low, final_low, with_stamp_low}
 use Rattle.tp_process.specs.Sheets.{ChangesSheet, sheet_at}
 use Rattle.tp_process.specs.State.{Agrees, IsLow, committed, site_sheet}
 use Rattle.tp_rules.specs.Process.{LIMIT, Moved, ProcessState, bumped, finished, learned, on_commit, start, with_sheet}
-use Rattle.tp_rules.specs.Sheet.{Sheet, final_stamp, kept, ring_setting, stamp_of, with_stamp}
+use Rattle.tp_rules.specs.Sheet.{Sheet, final_stamp, kept, ring_rule, stamp_of, with_stamp}
 use Rattle.tp_sheet.specs.SiteSheet.{SiteSheet, blank_at, final_by, with_known}
 use Rattle.tp_topology.specs.Shape.{Shape}
 
@@ -182,7 +182,7 @@ module _ {S : Type 0} (shape : Shape) (site : Site) (clock told : ℕ) (pairs : 
 
 -- where the command accesses the partition
 pub commit_taken : (shape : Shape) (site : Site) (c : Command) (q t : ℕ) (s : ProcessState) → is_accessed shape.partitions c q ≡ true
-    → on_commit (ring_setting shape) site c q t s ≡ learned shape site c.id q t (kept c (s.sheets c.id)) s
+    → on_commit (ring_rule shape) site c q t s ≡ learned shape site c.id q t (kept c (s.sheets c.id)) s
 commit_taken shape site c q t s e =
     cond-true {A = Moved} (is_accessed shape.partitions c q) (learned shape site c.id q t (kept c (s.sheets c.id)) s) (s, []) e
 

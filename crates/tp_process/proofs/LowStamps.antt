@@ -1,5 +1,5 @@
 -- Stamps below the limit, in the tables of a sheet.
-use Rattle.std.proofs.Common.{◌≡◌, ℕ, zero, suc, ◌-◌, ◌<◌, ◌≤◌, ◌⊎◌, inl, inr, true, List, [], ◌∷◌, map, max, replicate, set, Option, Some, None, is_some, refl, sym, subst, arith}
+use Rattle.std.proofs.Common.{◌≡◌, ℕ, zero, suc, ◌-◌, ◌<◌, ◌≤◌, ◌⊎◌, inl, inr, Bool, true, List, [], ◌∷◌, map, max, replicate, set, Option, Some, None, is_some, refl, sym, subst, arith}
 use Rattle.std.specs.Prelude.{nat_lt, slice_get, unwrap_or}
 use Rattle.std.specs.List.{list_all, list_any}
 use Rattle.std.proofs.lemmas.Bool.{and_parts, cond_both}
@@ -7,7 +7,7 @@ use Rattle.std.proofs.lemmas.Option.{cond_some}
 use Rattle.tp_base.proofs.Each.{each_weaker}
 use Rattle.tp_base.specs.Lists.{Each}
 use Rattle.tp_base.specs.declared.names.Made.{Made}
-use Rattle.tp_choice.specs.Choosing.{best_from, chosen_of_proposals, chosen_with, greatest_by, is_member, member_stamp, recovery_choice, tells_slow}
+use Rattle.tp_choice.specs.Choosing.{best_from, chosen_of_proposals, chosen_with, greatest_by, member_stamp, recovery_choice, tells_slow}
 use Rattle.tp_choice.specs.declared.answer.RecoveryAnswer.{RecoveryAnswer}
 use Rattle.tp_ops.specs.Parts.{is_accessed}
 use Rattle.tp_ops.specs.declared.command.Command.{Command}
@@ -168,29 +168,29 @@ present_low [] h = tt
 present_low (None ∷ table) h = present_low table h.1
 present_low (Some a ∷ table) h = (h.0, present_low table h.1)
 
-member_low : (shape : Shape) (home : ℕ) (a : RecoveryAnswer) → IsLowStamp a → member_stamp shape home a ≤ LIMIT - 1
-member_low shape home a lt =
-    cond_both (is_member shape home a) a.stamp.0 0 (λ (n : ℕ). n ≤ LIMIT - 1) (λ t. omega (arith, lt)) (λ f. omega arith)
+member_low : (in_quorum : ℕ → Bool) (a : RecoveryAnswer) → IsLowStamp a → member_stamp in_quorum a ≤ LIMIT - 1
+member_low in_quorum a lt =
+    cond_both (in_quorum a.rank.0) a.stamp.0 0 (λ (n : ℕ). n ≤ LIMIT - 1) (λ t. omega (arith, lt)) (λ f. omega arith)
 
-proposals_low : (shape : Shape) (home : ℕ) (answers : List RecoveryAnswer) → Each IsLowStamp answers → chosen_of_proposals shape home answers < LIMIT
-proposals_low shape home answers h =
+proposals_low : (in_quorum : ℕ → Bool) (home : ℕ) (answers : List RecoveryAnswer) → Each IsLowStamp answers → chosen_of_proposals in_quorum home answers < LIMIT
+proposals_low in_quorum home answers h =
     let all : greatest_by (λ a. a.stamp.0) answers ≤ LIMIT - 1 = greatest_by_low (λ a. a.stamp.0) answers (LIMIT - 1)
     (each_weaker IsLowStamp (λ a. a.stamp.0 ≤ LIMIT - 1) (λ a lt. omega (arith, lt)) answers h) in
-    let members : greatest_by (member_stamp shape home) answers ≤ LIMIT - 1 = greatest_by_low (member_stamp shape home) answers (LIMIT - 1)
-    (each_weaker IsLowStamp (λ a. member_stamp shape home a ≤ LIMIT - 1) (λ a lt. member_low shape home a lt) answers h) in
-    cond_both (list_any (tells_slow shape home) answers) (greatest_by (λ a. a.stamp.0) answers) (greatest_by (member_stamp shape home) answers)
+    let members : greatest_by (member_stamp in_quorum) answers ≤ LIMIT - 1 = greatest_by_low (member_stamp in_quorum) answers (LIMIT - 1)
+    (each_weaker IsLowStamp (λ a. member_stamp in_quorum a ≤ LIMIT - 1) (λ a lt. member_low in_quorum a lt) answers h) in
+    cond_both (list_any (tells_slow in_quorum home) answers) (greatest_by (λ a. a.stamp.0) answers) (greatest_by (member_stamp in_quorum) answers)
     (λ (n : ℕ). n < LIMIT) (λ t. omega (arith, all)) (λ f. omega (arith, members))
 
-chosen_low : (shape : Shape) (home : ℕ) (answers : List RecoveryAnswer) (best : Option RecoveryAnswer) → Each IsLowStamp answers → IfAny IsLowStamp best
-    → chosen_with shape home answers best < LIMIT
-chosen_low shape home answers None h low = proposals_low shape home answers h
-chosen_low shape home answers (Some best) h low =
-    cond_both (nat_lt 0 best.accepted) best.stamp.0 (chosen_of_proposals shape home answers) (λ (n : ℕ). n < LIMIT)
-    (λ t. low) (λ f. proposals_low shape home answers h)
+chosen_low : (in_quorum : ℕ → Bool) (home : ℕ) (answers : List RecoveryAnswer) (best : Option RecoveryAnswer) → Each IsLowStamp answers → IfAny IsLowStamp best
+    → chosen_with in_quorum home answers best < LIMIT
+chosen_low in_quorum home answers None h low = proposals_low in_quorum home answers h
+chosen_low in_quorum home answers (Some best) h low =
+    cond_both (nat_lt 0 best.accepted) best.stamp.0 (chosen_of_proposals in_quorum home answers) (λ (n : ℕ). n < LIMIT)
+    (λ t. low) (λ f. proposals_low in_quorum home answers h)
 
-pub recovery_low : (shape : Shape) (home : ℕ) (table : List (Option RecoveryAnswer)) → Each IsLowAnswer table
-    → recovery_choice shape home (present table) < LIMIT
+pub recovery_low : (in_quorum : ℕ → Bool) (home : ℕ) (table : List (Option RecoveryAnswer)) → Each IsLowAnswer table
+    → recovery_choice in_quorum home (present table) < LIMIT
 unfolding recovery_choice
-recovery_low shape home table h =
+recovery_low in_quorum home table h =
     let low : Each IsLowStamp (present table) = present_low table h in
-    chosen_low shape home (present table) (best_from None (present table)) low (best_fit IsLowStamp None (present table) tt low)
+    chosen_low in_quorum home (present table) (best_from None (present table)) low (best_fit IsLowStamp None (present table) tt low)

@@ -17,7 +17,7 @@ use Rattle.tp_process.specs.Sheets.{ChangesSheet, sheet_at}
 use Rattle.tp_process.specs.State.{Agrees, IsLow}
 use Rattle.tp_rules.specs.Addresses.{is_command_at}
 use Rattle.tp_rules.specs.Process.{LIMIT, Moved, ProcessState, next_stamp, on_propose, on_submit, proposed, submitted, with_room, with_sheet}
-use Rattle.tp_rules.specs.Sheet.{Sheet, acknowledged, acknowledged_own, can_acknowledge, is_fresh, kept, ring_setting, with_proposal}
+use Rattle.tp_rules.specs.Sheet.{Sheet, acknowledged, acknowledged_own, can_acknowledge, is_fresh, kept, ring_rule, with_proposal}
 use Rattle.tp_sheet.specs.SiteSheet.{SiteSheet, with_own, with_sheet as keeping}
 use Rattle.tp_topology.specs.Shape.{Shape}
 
@@ -79,15 +79,15 @@ module _ {S : Type 0} (shape : Shape) (site : Site) (clock told : ℕ) (pairs : 
       ap (λ (x : SiteSheet). is_fresh x.site.partition.0 x.sheet && nat_lt clock (LIMIT - 1)) (h.sheets_are c.id)
       ∙ ap (λ (n : ℕ). is_fresh site.partition.0 (s.sheets c.id) && nat_lt n (LIMIT - 1)) h.clock_is
 
-  pub submit_refused : ((c.home.0 == site.rank.0) && proposes) ≡ false → with_room s (on_submit (ring_setting shape) site c s) ≡ (s, [])
+  pub submit_refused : ((c.home.0 == site.rank.0) && proposes) ≡ false → with_room s (on_submit (ring_rule shape) site c s) ≡ (s, [])
   submit_refused e =
-      room_refused s (submitted (ring_setting shape) site c (next_stamp 0 s) (s.sheets c.id) s) ((c.home.0 == site.rank.0) && is_fresh site.partition.0 (s.sheets c.id)) (nat_lt s.clock (LIMIT - 1))
+      room_refused s (submitted (ring_rule shape) site c (next_stamp 0 s) (s.sheets c.id) s) ((c.home.0 == site.rank.0) && is_fresh site.partition.0 (s.sheets c.id)) (nat_lt s.clock (LIMIT - 1))
       (sym (and_three (c.home.0 == site.rank.0) (is_fresh site.partition.0 (s.sheets c.id)) (nat_lt s.clock (LIMIT - 1))) ∙ ap (λ (b : Bool). (c.home.0 == site.rank.0) && b) (sym same_test) ∙ e)
       (same_room 0 s.clock (omega arith))
 
-  pub propose_refused : (from : ActorName) (floor : ℕ) → floor < LIMIT → proposes ≡ false → with_room s (on_propose (ring_setting shape) site from c floor s) ≡ (s, [])
+  pub propose_refused : (from : ActorName) (floor : ℕ) → floor < LIMIT → proposes ≡ false → with_room s (on_propose (ring_rule shape) site from c floor s) ≡ (s, [])
   propose_refused from floor low e =
-      room_refused s (proposed (ring_setting shape) site from c (next_stamp floor s) (s.sheets c.id) s) (is_fresh site.partition.0 (s.sheets c.id)) (nat_lt s.clock (LIMIT - 1))
+      room_refused s (proposed (ring_rule shape) site from c (next_stamp floor s) (s.sheets c.id) s) (is_fresh site.partition.0 (s.sheets c.id)) (nat_lt s.clock (LIMIT - 1))
       (sym same_test ∙ e)
       (same_room floor s.clock low)
 
@@ -99,20 +99,20 @@ module _ {S : Type 0} (shape : Shape) (site : Site) (clock told : ℕ) (pairs : 
       (subst (λ (n : ℕ). s.clock < n) same (later floor s.clock), subst (λ (n : ℕ). n < LIMIT) same (stamp_low floor s.clock low room))
 
   pub submit_taken : (t : ℕ) → t ≡ proposed_stamp 0 clock → ((c.home.0 == site.rank.0) && proposes) ≡ true
-      → with_room s (on_submit (ring_setting shape) site c s) ≡ submitted (ring_setting shape) site c t (s.sheets c.id) s
+      → with_room s (on_submit (ring_rule shape) site c s) ≡ submitted (ring_rule shape) site c t (s.sheets c.id) s
   submit_taken t is_stamp e =
-      room_taken s (submitted (ring_setting shape) site c (next_stamp 0 s) (s.sheets c.id) s) ((c.home.0 == site.rank.0) && is_fresh site.partition.0 (s.sheets c.id)) (nat_lt s.clock (LIMIT - 1))
+      room_taken s (submitted (ring_rule shape) site c (next_stamp 0 s) (s.sheets c.id) s) ((c.home.0 == site.rank.0) && is_fresh site.partition.0 (s.sheets c.id)) (nat_lt s.clock (LIMIT - 1))
       (sym (and_three (c.home.0 == site.rank.0) (is_fresh site.partition.0 (s.sheets c.id)) (nat_lt s.clock (LIMIT - 1))) ∙ ap (λ (b : Bool). (c.home.0 == site.rank.0) && b) (sym same_test) ∙ e)
       (same_room 0 s.clock (omega arith))
-      ∙ ap (λ (n : ℕ). submitted (ring_setting shape) site c n (s.sheets c.id) s) (ap (λ (n : ℕ). proposed_stamp 0 n) (sym h.clock_is) ∙ sym is_stamp)
+      ∙ ap (λ (n : ℕ). submitted (ring_rule shape) site c n (s.sheets c.id) s) (ap (λ (n : ℕ). proposed_stamp 0 n) (sym h.clock_is) ∙ sym is_stamp)
 
   pub propose_taken : (from : ActorName) (floor t : ℕ) → floor < LIMIT → t ≡ proposed_stamp floor clock → proposes ≡ true
-      → with_room s (on_propose (ring_setting shape) site from c floor s) ≡ proposed (ring_setting shape) site from c t (s.sheets c.id) s
+      → with_room s (on_propose (ring_rule shape) site from c floor s) ≡ proposed (ring_rule shape) site from c t (s.sheets c.id) s
   propose_taken from floor t low is_stamp e =
-      room_taken s (proposed (ring_setting shape) site from c (next_stamp floor s) (s.sheets c.id) s) (is_fresh site.partition.0 (s.sheets c.id)) (nat_lt s.clock (LIMIT - 1))
+      room_taken s (proposed (ring_rule shape) site from c (next_stamp floor s) (s.sheets c.id) s) (is_fresh site.partition.0 (s.sheets c.id)) (nat_lt s.clock (LIMIT - 1))
       (sym same_test ∙ e)
       (same_room floor s.clock low)
-      ∙ ap (λ (n : ℕ). proposed (ring_setting shape) site from c n (s.sheets c.id) s) (ap (λ (n : ℕ). proposed_stamp floor n) (sym h.clock_is) ∙ sym is_stamp)
+      ∙ ap (λ (n : ℕ). proposed (ring_rule shape) site from c n (s.sheets c.id) s) (ap (λ (n : ℕ). proposed_stamp floor n) (sym h.clock_is) ∙ sym is_stamp)
 
   -- the sheet of a command that is kept, with the own proposal, and acknowledged at its home
   pub keeps : (new : IndexMap CommandId SiteSheet S) (copy : Command) → is_command_at shape site.partition.0 c ≡ true → copy ≡ c
@@ -140,13 +140,13 @@ module _ {S : Type 0} (shape : Shape) (site : Site) (clock told : ℕ) (pairs : 
       (ap (λ (old : SiteSheet). keeping (with_own_proposal t c old.sheet) old) (h.sheets_are c.id)) (proposal_low t (s.sheets c.id) homed (h.low c.id)) h
 
   abbrev own_sheet : ℕ → Sheet
-  own_sheet t = acknowledged_own (ring_setting shape) site.partition.0 site.rank.0 t (with_own_proposal t c (s.sheets c.id))
+  own_sheet t = acknowledged_own (ring_rule shape) site.partition.0 site.rank.0 t (with_own_proposal t c (s.sheets c.id))
 
   own_low : (t : ℕ) → is_command_at shape site.partition.0 c ≡ true → t < LIMIT → IsLow shape (own_sheet t)
   own_low t homed lt =
       let sheet = with_own_proposal t c (s.sheets c.id) in
       let low = proposal_low t (s.sheets c.id) homed (h.low c.id) in
-      cond_both (can_acknowledge (ring_setting shape) site.partition.0 site.rank.0 site.rank.0 sheet) (acknowledged site.rank.0 t sheet) sheet (IsLow shape)
+      cond_both (can_acknowledge (ring_rule shape) site.partition.0 site.rank.0 site.rank.0 sheet) (acknowledged site.rank.0 t sheet) sheet (IsLow shape)
       (λ yes_it_can. acknowledged_low site.rank.0 t sheet lt low) (λ it_cannot. low)
 
   pub submits_now : (new : IndexMap CommandId SiteSheet S) (copy : Command) (t : ℕ) → is_command_at shape site.partition.0 c ≡ true → copy ≡ c → t < LIMIT

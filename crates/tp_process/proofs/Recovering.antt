@@ -19,7 +19,7 @@ use Rattle.tp_process.specs.Sheets.{ChangesSheet, sheet_at}
 use Rattle.tp_process.specs.State.{Agrees, agreed_above, answer_with, site_sheet}
 use Rattle.tp_rules.specs.Addresses.{is_command_at}
 use Rattle.tp_rules.specs.Process.{LIMIT, Moved, ProcessState, agreed, answer, has_next, joined, next_stamp, on_rec, on_rec_by, on_recover, proposed_late, recovering, told as told_to, with_room, with_sheet}
-use Rattle.tp_rules.specs.Sheet.{Sheet, is_fresh, is_untouched, kept, ring_setting, stamp_of, trying, with_ballot, with_proposal}
+use Rattle.tp_rules.specs.Sheet.{Sheet, is_fresh, is_untouched, kept, ring_rule, stamp_of, trying, with_ballot, with_proposal}
 use Rattle.tp_sheet.specs.SiteSheet.{SiteSheet, answer_of, ballot_by, promise_by, trying_at, with_promise, with_sheet as keeping, with_try}
 use Rattle.tp_topology.specs.Ballots.{next_ballot}
 use Rattle.tp_topology.specs.Shape.{Shape}
@@ -123,17 +123,17 @@ module _ {S : Type 0} (shape : Shape) (site : Site) (clock told : ℕ) (pairs : 
 
   -- by whether the partition's stamp is known
   by_stamp : (from : ActorName) (b : ℕ) (o : Option ℕ) → stamp_of (sheet_at shape site sheets c.id).sheet site.partition.0 ≡ o
-      → with_room s (on_rec (ring_setting shape) site from c b s) ≡ with_room s (on_rec_by (ring_setting shape) site from c b o s)
+      → with_room s (on_rec (ring_rule shape) site from c b s) ≡ with_room s (on_rec_by (ring_rule shape) site from c b o s)
   by_stamp from b o e =
-      ap (λ (known : Option ℕ). with_room s (on_rec_by (ring_setting shape) site from c b known s))
+      ap (λ (known : Option ℕ). with_room s (on_rec_by (ring_rule shape) site from c b known s))
       (ap (λ (kept : SiteSheet). stamp_of kept.sheet site.partition.0) (sym (h.sheets_are c.id)) ∙ e)
 
   pub rec_known : (from : ActorName) (b t : ℕ) → stamp_of (sheet_at shape site sheets c.id).sheet site.partition.0 ≡ Some t
-      → with_room s (on_rec (ring_setting shape) site from c b s) ≡ (s, told_to site from sheet.command t)
+      → with_room s (on_rec (ring_rule shape) site from c b s) ≡ (s, told_to site from sheet.command t)
   rec_known from b t e = by_stamp from b (Some t) e ∙ has_room (s, told_to site from sheet.command t) refl
 
   pub rec_unknown : (from : ActorName) (b : ℕ) → stamp_of (sheet_at shape site sheets c.id).sheet site.partition.0 ≡ None
-      → with_room s (on_rec (ring_setting shape) site from c b s) ≡ with_room s (on_rec_by (ring_setting shape) site from c b None s)
+      → with_room s (on_rec (ring_rule shape) site from c b s) ≡ with_room s (on_rec_by (ring_rule shape) site from c b None s)
   rec_unknown from b e = by_stamp from b None e
 
   -- whether the process answers at a ballot, by its fields and by the state
@@ -147,33 +147,33 @@ module _ {S : Type 0} (shape : Shape) (site : Site) (clock told : ℕ) (pairs : 
   same_test b = sym (ap (λ (kept : SiteSheet). nat_lt kept.sheet.ballot b && nat_lt b LIMIT) (h.sheets_are c.id))
 
   abbrev joining : ActorName → ℕ → Moved
-  joining from b = joined (ring_setting shape) site from c b sheet s
+  joining from b = joined (ring_rule shape) site from c b sheet s
 
-  join_refused : (from : ActorName) (b : ℕ) → takes b ≡ false → with_room s (on_rec_by (ring_setting shape) site from c b None s) ≡ (s, [])
+  join_refused : (from : ActorName) (b : ℕ) → takes b ≡ false → with_room s (on_rec_by (ring_rule shape) site from c b None s) ≡ (s, [])
   join_refused from b e =
       ap (λ (moved : Moved). with_room s moved) (cond-false {A = Moved} (takes_in b) (joining from b) (s, []) (same_test b ∙ e))
       ∙ has_room (s, []) refl
 
   pub join_untried : (from : ActorName) (b : ℕ) → (nat_lt 0 b && nat_lt b LIMIT) ≡ false
-      → with_room s (on_rec_by (ring_setting shape) site from c b None s) ≡ (s, [])
+      → with_room s (on_rec_by (ring_rule shape) site from c b None s) ≡ (s, [])
   join_untried from b e = join_refused from b (untried (sheet_at shape site sheets c.id).sheet.ballot b e)
 
   join_taken : (from : ActorName) (b : ℕ) → takes b ≡ true
-      → with_room s (on_rec_by (ring_setting shape) site from c b None s) ≡ with_room s (joining from b)
+      → with_room s (on_rec_by (ring_rule shape) site from c b None s) ≡ with_room s (joining from b)
   join_taken from b e = ap (λ (moved : Moved). with_room s moved) (cond-true {A = Moved} (takes_in b) (joining from b) (s, []) (same_test b ∙ e))
 
   untouched_in : (t : Bool) → is_untouched (sheet_at shape site sheets c.id).sheet ≡ t → is_untouched sheet ≡ t
   untouched_in t e = sym (ap (λ (kept : SiteSheet). is_untouched kept.sheet) (h.sheets_are c.id)) ∙ e
 
   abbrev late : ActorName → ℕ → Moved
-  late from b = proposed_late (ring_setting shape) site from c b (next_stamp 0 s) sheet s
+  late from b = proposed_late (ring_rule shape) site from c b (next_stamp 0 s) sheet s
 
   abbrev agreeing : ActorName → ℕ → Moved
   agreeing from b = agreed site from c b sheet s
 
   -- where there is something to tell
   pub join_agrees : (from : ActorName) (b : ℕ) → (nat_lt 0 b && nat_lt b LIMIT) ≡ true → is_untouched (sheet_at shape site sheets c.id).sheet ≡ false
-      → with_room s (on_rec_by (ring_setting shape) site from c b None s) ≡ agreed_above site from c b s
+      → with_room s (on_rec_by (ring_rule shape) site from c b None s) ≡ agreed_above site from c b s
   join_agrees from b tried touched = go (nat_lt sheet.ballot b) refl
     where
       low : nat_lt b LIMIT ≡ true
@@ -183,7 +183,7 @@ module _ {S : Type 0} (shape : Shape) (site : Site) (clock told : ℕ) (pairs : 
       there above e = sym (same_test b) ∙ ap (λ (x : Bool). x && nat_lt b LIMIT) e ∙ ap (λ (x : Bool). above && x) low
 
       go : (above : Bool) → nat_lt sheet.ballot b ≡ above
-          → with_room s (on_rec_by (ring_setting shape) site from c b None s) ≡ cond {A = Moved} above (agreeing from b) (s, [])
+          → with_room s (on_rec_by (ring_rule shape) site from c b None s) ≡ cond {A = Moved} above (agreeing from b) (s, [])
       go true e =
           join_taken from b (there true e)
           ∙ ap (λ (moved : Moved). with_room s moved) (cond-false {A = Moved} (is_untouched sheet) (late from b) (agreeing from b) (untouched_in false touched))
@@ -191,7 +191,7 @@ module _ {S : Type 0} (shape : Shape) (site : Site) (clock told : ℕ) (pairs : 
       go false e = join_refused from b (there false e)
 
   proposing_late : (from : ActorName) (b : ℕ) → takes b ≡ true → is_untouched (sheet_at shape site sheets c.id).sheet ≡ true
-      → with_room s (on_rec_by (ring_setting shape) site from c b None s) ≡ with_room s (late from b)
+      → with_room s (on_rec_by (ring_rule shape) site from c b None s) ≡ with_room s (late from b)
   proposing_late from b e untouched =
       join_taken from b e
       ∙ ap (λ (moved : Moved). with_room s moved) (cond-true {A = Moved} (is_untouched sheet) (late from b) (agreeing from b) (untouched_in true untouched))
@@ -200,12 +200,12 @@ module _ {S : Type 0} (shape : Shape) (site : Site) (clock told : ℕ) (pairs : 
   room_is r e = same_room 0 s.clock (omega arith) ∙ ap (λ (n : ℕ). nat_lt n (LIMIT - 1)) (sym h.clock_is) ∙ e
 
   pub join_full : (from : ActorName) (b : ℕ) → takes b ≡ true → is_untouched (sheet_at shape site sheets c.id).sheet ≡ true
-      → nat_lt clock (LIMIT - 1) ≡ false → with_room s (on_rec_by (ring_setting shape) site from c b None s) ≡ (s, [])
+      → nat_lt clock (LIMIT - 1) ≡ false → with_room s (on_rec_by (ring_rule shape) site from c b None s) ≡ (s, [])
   join_full from b e untouched full =
       proposing_late from b e untouched ∙ cond-false {A = Moved} (nat_lt (next_stamp 0 s) LIMIT) (late from b) (s, []) (room_is false full)
 
   pub join_proposes : (from : ActorName) (b : ℕ) → takes b ≡ true → is_untouched (sheet_at shape site sheets c.id).sheet ≡ true
-      → nat_lt clock (LIMIT - 1) ≡ true → with_room s (on_rec_by (ring_setting shape) site from c b None s) ≡ late from b
+      → nat_lt clock (LIMIT - 1) ≡ true → with_room s (on_rec_by (ring_rule shape) site from c b None s) ≡ late from b
   join_proposes from b e untouched room =
       proposing_late from b e untouched ∙ cond-true {A = Moved} (nat_lt (next_stamp 0 s) LIMIT) (late from b) (s, []) (room_is true room)
 

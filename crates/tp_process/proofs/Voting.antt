@@ -12,13 +12,13 @@ use Rattle.tp_process.specs.Sheets.{ChangesSheet, sheet_at}
 use Rattle.tp_process.specs.State.{Agrees, IsLow, site_sheet}
 use Rattle.tp_rules.specs.Addresses.{is_between, site as site_of}
 use Rattle.tp_rules.specs.Process.{LIMIT, Moved, ProcessState, decided, on_consensus_ack, with_sheet}
-use Rattle.tp_rules.specs.Sheet.{Sheet, can_vote, has_consensus, ring_setting, with_vote}
+use Rattle.tp_rules.specs.Sheet.{Sheet, can_vote, has_consensus, ring_rule, with_vote}
 use Rattle.tp_sheet.specs.SiteSheet.{SiteSheet, decision_by, with_vote_of}
 use Rattle.tp_topology.specs.Shape.{Shape}
 
 -- the row of the rules for a rank of the shape
 abbrev pub counted_vote : Shape → Site → ℕ → CommandId → ℕ → ProcessState → Moved
-counted_vote shape me rank id b s = on_consensus_ack (ring_setting shape) me (Process (site_of 0 rank)) id b s
+counted_vote shape me rank id b s = on_consensus_ack (ring_rule shape) me (Process (site_of 0 rank)) id b s
 
 -- by whether the rank is one, its vote counts, and a quorum has voted with it
 module _ (shape : Shape) (me : Site) (id : CommandId) (sheet votes : Sheet) (s : ProcessState) where

@@ -14,7 +14,7 @@ use Rattle.tp_process.specs.declared.process.Process.{Process}
 use Rattle.tp_rules.specs.Acts.{Act, Identity, ProcessAt}
 use Rattle.tp_rules.specs.Addresses.{is_between, message}
 use Rattle.tp_rules.specs.Process.{LIMIT, Moved, ProcessState, agreed, state_after, untold}
-use Rattle.tp_rules.specs.Sheet.{Sheet, is_fresh, ring_setting}
+use Rattle.tp_rules.specs.Sheet.{Sheet, is_fresh, ring_rule}
 use Rattle.tp_sheet.specs.SiteSheet.{SiteSheet}
 use Rattle.tp_topology.specs.Shape.{Shape}
 use Rattle.tp_wire.specs.declared.message.Body.TheVariants.{MCommitted, MRecAck}
@@ -67,7 +67,7 @@ abbrev pub IsState : Process → ProcessState → Type 0
 IsState p s = Agrees p.place.topology p.place.site p.clock.clock p.clock.told p.untold p.sheets s
 
 abbrev pub Stands : Process → List Act → Type 0
-Stands p acts = IsState p (state_after (ring_setting p.place.topology) p.place.site acts)
+Stands p acts = IsState p (state_after (ring_rule p.place.topology) p.place.site acts)
 
 -- what the process keeps of a command
 abbrev pub kept_of : Process → CommandId → SiteSheet

@@ -2,7 +2,7 @@ ghost use Rattle.std.specs.Prelude.{◌≡◌, ◌<◌, ◌++◌, true, IfOk, On
 ghost use Rattle.tp_process.specs.State.{IsState, identity, kept_of};
 ghost use Rattle.tp_rules.specs.Addresses.{is_between, is_name_of, site};
 ghost use Rattle.tp_rules.specs.Process.{LIMIT, ProcessState, commits, decided, on_propose_ack, put_to_vote, with_sheet};
-ghost use Rattle.tp_rules.specs.Sheet.{Sheet, ring_setting};
+ghost use Rattle.tp_rules.specs.Sheet.{Sheet, ring_rule};
 ghost use Rattle.tp_wire.specs.Ranges.{IsProcess};
 
 use crate::addresses::{other_processes, processes_of, send_each};
@@ -23,8 +23,8 @@ impl Process {
     ) -> Result<Outputs, NoMemory>
         requires { is_name_of self.old.place.topology from ≡ true }
         ensures identity { identity self.new ≡ identity self.old }
-        ensures outputs { IfOk result (λ outputs. (s : ProcessState) → IsState self.old s → IsProcess from → stamp.0 < LIMIT → outputs ≡ (on_propose_ack (ring_setting self.old.place.topology) self.old.place.site from id stamp.0 s).1) }
-        ensures state { OnOk result ((s : ProcessState) → IsState self.old s → IsProcess from → stamp.0 < LIMIT → IsState self.new (on_propose_ack (ring_setting self.old.place.topology) self.old.place.site from id stamp.0 s).0) }
+        ensures outputs { IfOk result (λ outputs. (s : ProcessState) → IsState self.old s → IsProcess from → stamp.0 < LIMIT → outputs ≡ (on_propose_ack (ring_rule self.old.place.topology) self.old.place.site from id stamp.0 s).1) }
+        ensures state { OnOk result ((s : ProcessState) → IsState self.old s → IsProcess from → stamp.0 < LIMIT → IsState self.new (on_propose_ack (ring_rule self.old.place.topology) self.old.place.site from id stamp.0 s).0) }
     {
         match from {
             ActorName::Process(site) => self.count_proposal(site.rank, id, stamp),
@@ -41,8 +41,8 @@ impl Process {
         stamp: Stamp,
     ) -> Result<Outputs, NoMemory>
         ensures identity { identity self.new ≡ identity self.old }
-        ensures outputs { IfOk result (λ outputs. (s : ProcessState) → IsState self.old s → is_between rank.0 self.old.place.topology.replicas ≡ true → stamp.0 < LIMIT → outputs ≡ (on_propose_ack (ring_setting self.old.place.topology) self.old.place.site (ActorName.Process (site 0 rank.0)) id stamp.0 s).1) }
-        ensures state { OnOk result ((s : ProcessState) → IsState self.old s → is_between rank.0 self.old.place.topology.replicas ≡ true → stamp.0 < LIMIT → IsState self.new (on_propose_ack (ring_setting self.old.place.topology) self.old.place.site (ActorName.Process (site 0 rank.0)) id stamp.0 s).0) }
+        ensures outputs { IfOk result (λ outputs. (s : ProcessState) → IsState self.old s → is_between rank.0 self.old.place.topology.replicas ≡ true → stamp.0 < LIMIT → outputs ≡ (on_propose_ack (ring_rule self.old.place.topology) self.old.place.site (ActorName.Process (site 0 rank.0)) id stamp.0 s).1) }
+        ensures state { OnOk result ((s : ProcessState) → IsState self.old s → is_between rank.0 self.old.place.topology.replicas ≡ true → stamp.0 < LIMIT → IsState self.new (on_propose_ack (ring_rule self.old.place.topology) self.old.place.site (ActorName.Process (site 0 rank.0)) id stamp.0 s).0) }
     {
         match acknowledge(&mut self.sheets, &self.place, id, rank, stamp) {
             Some(FastChoice::Fast(top)) => self.decide(id, top),

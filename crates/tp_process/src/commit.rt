@@ -2,7 +2,7 @@ ghost use Rattle.std.specs.Prelude.{◌≡◌, ◌≤◌, ◌<◌, ◌++◌, tru
 ghost use Rattle.tp_process.specs.State.{IsState, committed, identity, kept_of};
 ghost use Rattle.tp_rules.specs.Addresses.{is_between, is_command_at};
 ghost use Rattle.tp_rules.specs.Process.{LIMIT, ProcessState, learned, on_commit, with_sheet};
-ghost use Rattle.tp_rules.specs.Sheet.{Sheet, ring_setting};
+ghost use Rattle.tp_rules.specs.Sheet.{Sheet, ring_rule};
 
 use crate::process::Process;
 use crate::sheets::{command_at, keep, learn};
@@ -22,8 +22,8 @@ impl Process {
         requires command { is_command_at self.old.place.topology self.old.place.site.partition.0 command.now ≡ true }
         requires partition { is_between partition.0 self.old.place.topology.partitions ≡ true }
         ensures identity { identity self.new ≡ identity self.old }
-        ensures outputs { IfOk result (λ outputs. (s : ProcessState) → IsState self.old s → stamp.0 < LIMIT → outputs ≡ (on_commit (ring_setting self.old.place.topology) self.old.place.site command.now partition.0 stamp.0 s).1) }
-        ensures state { OnOk result ((s : ProcessState) → IsState self.old s → stamp.0 < LIMIT → IsState self.new (on_commit (ring_setting self.old.place.topology) self.old.place.site command.now partition.0 stamp.0 s).0) }
+        ensures outputs { IfOk result (λ outputs. (s : ProcessState) → IsState self.old s → stamp.0 < LIMIT → outputs ≡ (on_commit (ring_rule self.old.place.topology) self.old.place.site command.now partition.0 stamp.0 s).1) }
+        ensures state { OnOk result ((s : ProcessState) → IsState self.old s → stamp.0 < LIMIT → IsState self.new (on_commit (ring_rule self.old.place.topology) self.old.place.site command.now partition.0 stamp.0 s).0) }
     {
         if !accesses(command, self.place.topology.partitions(), partition) {
             return Ok(self.nothing());

@@ -2,7 +2,7 @@ ghost use Rattle.std.specs.Prelude.{◌≡◌, ◌<◌, ◌∷◌, [], true, IfO
 ghost use Rattle.tp_process.specs.State.{IsState, identity};
 ghost use Rattle.tp_rules.specs.Addresses.{is_between, is_command_at, is_name_of, message, site};
 ghost use Rattle.tp_rules.specs.Process.{LIMIT as the_limit, ProcessState, on_consensus, on_consensus_ack};
-ghost use Rattle.tp_rules.specs.Sheet.{ring_setting};
+ghost use Rattle.tp_rules.specs.Sheet.{ring_rule};
 ghost use Rattle.tp_wire.specs.Ranges.{IsProcess};
 
 use crate::process::{LIMIT, Process};
@@ -48,8 +48,8 @@ impl Process {
     ) -> Result<Outputs, NoMemory>
         requires { is_name_of self.old.place.topology from ≡ true }
         ensures identity { identity self.new ≡ identity self.old }
-        ensures outputs { IfOk result (λ outputs. (s : ProcessState) → IsState self.old s → IsProcess from → outputs ≡ (on_consensus_ack (ring_setting self.old.place.topology) self.old.place.site from id ballot s).1) }
-        ensures state { OnOk result ((s : ProcessState) → IsState self.old s → IsProcess from → IsState self.new (on_consensus_ack (ring_setting self.old.place.topology) self.old.place.site from id ballot s).0) }
+        ensures outputs { IfOk result (λ outputs. (s : ProcessState) → IsState self.old s → IsProcess from → outputs ≡ (on_consensus_ack (ring_rule self.old.place.topology) self.old.place.site from id ballot s).1) }
+        ensures state { OnOk result ((s : ProcessState) → IsState self.old s → IsProcess from → IsState self.new (on_consensus_ack (ring_rule self.old.place.topology) self.old.place.site from id ballot s).0) }
     {
         match from {
             ActorName::Process(site) => self.count_vote(site.rank, id, ballot),
@@ -60,8 +60,8 @@ impl Process {
     /// Counts a rank's vote: with the last of a consensus quorum, the stamp that is put is decided.
     fn count_vote(&mut self, rank: Rank, id: CommandId, ballot: u64) -> Result<Outputs, NoMemory>
         ensures identity { identity self.new ≡ identity self.old }
-        ensures outputs { IfOk result (λ outputs. (s : ProcessState) → IsState self.old s → is_between rank.0 self.old.place.topology.replicas ≡ true → outputs ≡ (on_consensus_ack (ring_setting self.old.place.topology) self.old.place.site (ActorName.Process (site 0 rank.0)) id ballot s).1) }
-        ensures state { OnOk result ((s : ProcessState) → IsState self.old s → is_between rank.0 self.old.place.topology.replicas ≡ true → IsState self.new (on_consensus_ack (ring_setting self.old.place.topology) self.old.place.site (ActorName.Process (site 0 rank.0)) id ballot s).0) }
+        ensures outputs { IfOk result (λ outputs. (s : ProcessState) → IsState self.old s → is_between rank.0 self.old.place.topology.replicas ≡ true → outputs ≡ (on_consensus_ack (ring_rule self.old.place.topology) self.old.place.site (ActorName.Process (site 0 rank.0)) id ballot s).1) }
+        ensures state { OnOk result ((s : ProcessState) → IsState self.old s → is_between rank.0 self.old.place.topology.replicas ≡ true → IsState self.new (on_consensus_ack (ring_rule self.old.place.topology) self.old.place.site (ActorName.Process (site 0 rank.0)) id ballot s).0) }
     {
         match vote(&mut self.sheets, &self.place, id, rank, ballot) {
             Some(stamp) => self.decide(id, stamp),

@@ -3,7 +3,7 @@ ghost use Rattle.std.specs.Option.{option_map};
 ghost use Rattle.tp_clock.specs.Clocks.{Promised};
 ghost use Rattle.tp_rules.specs.Acts.{Act, ProcessAt};
 ghost use Rattle.tp_rules.specs.Process.{LIMIT as the_limit, ProcessState, bumped, on_inner, on_message, proposing, state_after, with_sheet};
-ghost use Rattle.tp_rules.specs.Sheet.{Sheet, final_stamp as final_stamp_in, ring_setting};
+ghost use Rattle.tp_rules.specs.Sheet.{Sheet, final_stamp as final_stamp_in, ring_rule};
 ghost use Rattle.tp_sheet.specs.SiteSheet.{IsSiteOf};
 ghost use Rattle.tp_wire.specs.Ranges.{IsInRange};
 
@@ -53,14 +53,14 @@ impl Process {
 
     /// The greatest number that is promised.
     pub fn clock(&self) -> u64
-        ensures { (acts : List Act) → Stands self.now acts → result ≡ (state_after (ring_setting self.now.place.topology) self.now.place.site acts).clock }
+        ensures { (acts : List Act) → Stands self.now acts → result ≡ (state_after (ring_rule self.now.place.topology) self.now.place.site acts).clock }
     {
         self.clock.now()
     }
 
     /// The command's final stamp, where the stamps of all its partitions are known.
     pub fn stamp(&self, id: CommandId) -> Option<Stamp>
-        ensures { (acts : List Act) → Stands self.now acts → let sheet = (state_after (ring_setting self.now.place.topology) self.now.place.site acts).sheets id in option_map (λ t. t.0) result ≡ final_stamp_in self.now.place.topology sheet sheet.command }
+        ensures { (acts : List Act) → Stands self.now acts → let sheet = (state_after (ring_rule self.now.place.topology) self.now.place.site acts).sheets id in option_map (λ t. t.0) result ≡ final_stamp_in self.now.place.topology sheet sheet.command }
     {
         final_stamp(&self.sheets, &self.place, id)
     }
@@ -100,8 +100,8 @@ impl Process {
 
     fn take(&mut self, message: &Message) -> Result<Outputs, NoMemory>
         ensures identity { identity self.new ≡ identity self.old }
-        ensures outputs { IfOk result (λ outputs. (s : ProcessState) → IsState self.old s → IsInRange message.now → outputs ≡ (on_message (ring_setting self.old.place.topology) self.old.place.site message.now s).1) }
-        ensures state { OnOk result ((s : ProcessState) → IsState self.old s → IsInRange message.now → IsState self.new (on_message (ring_setting self.old.place.topology) self.old.place.site message.now s).0) }
+        ensures outputs { IfOk result (λ outputs. (s : ProcessState) → IsState self.old s → IsInRange message.now → outputs ≡ (on_message (ring_rule self.old.place.topology) self.old.place.site message.now s).1) }
+        ensures state { OnOk result ((s : ProcessState) → IsState self.old s → IsInRange message.now → IsState self.new (on_message (ring_rule self.old.place.topology) self.old.place.site message.now s).0) }
     {
         if !self.place.takes(message) {
             return Ok(self.nothing());
@@ -139,8 +139,8 @@ impl Process {
 
     fn act(&mut self, inner: Inner) -> Result<Outputs, NoMemory>
         ensures identity { identity self.new ≡ identity self.old }
-        ensures outputs { IfOk result (λ outputs. (s : ProcessState) → IsState self.old s → outputs ≡ (on_inner (ring_setting self.old.place.topology) self.old.place.site inner s).1) }
-        ensures state { OnOk result ((s : ProcessState) → IsState self.old s → IsState self.new (on_inner (ring_setting self.old.place.topology) self.old.place.site inner s).0) }
+        ensures outputs { IfOk result (λ outputs. (s : ProcessState) → IsState self.old s → outputs ≡ (on_inner (ring_rule self.old.place.topology) self.old.place.site inner s).1) }
+        ensures state { OnOk result ((s : ProcessState) → IsState self.old s → IsState self.new (on_inner (ring_rule self.old.place.topology) self.old.place.site inner s).0) }
     {
         match inner {
             Inner::Announce => self.on_announce(),

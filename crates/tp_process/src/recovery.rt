@@ -2,7 +2,7 @@ ghost use Rattle.std.specs.Prelude.{◌≡◌, ◌<◌, ◌-◌, ◌∷◌, ◌&
 ghost use Rattle.tp_process.specs.State.{IsState, agreed_above, answer_with, identity, kept_of};
 ghost use Rattle.tp_rules.specs.Addresses.{is_between, is_command_at, is_name_of, site};
 ghost use Rattle.tp_rules.specs.Process.{LIMIT as the_limit, ProcessState, asked, bumps, next_stamp, on_rec, on_rec_ack, on_rec_by, on_recover, proposed_late, told as told_in, with_room};
-ghost use Rattle.tp_rules.specs.Sheet.{command_or as kept_or, ring_setting, stamp_of};
+ghost use Rattle.tp_rules.specs.Sheet.{command_or as kept_or, ring_rule, stamp_of};
 ghost use Rattle.tp_wire.specs.Ranges.{IsProcess};
 
 use crate::addresses::{processes_of, send_each};
@@ -36,8 +36,8 @@ impl Process {
     ) -> Result<Outputs, NoMemory>
         requires { is_command_at self.old.place.topology self.old.place.site.partition.0 command.now ≡ true }
         ensures identity { identity self.new ≡ identity self.old }
-        ensures outputs { IfOk result (λ outputs. (s : ProcessState) → IsState self.old s → outputs ≡ (with_room s (on_rec (ring_setting self.old.place.topology) self.old.place.site from command.now ballot s)).1) }
-        ensures state { OnOk result ((s : ProcessState) → IsState self.old s → IsState self.new (with_room s (on_rec (ring_setting self.old.place.topology) self.old.place.site from command.now ballot s)).0) }
+        ensures outputs { IfOk result (λ outputs. (s : ProcessState) → IsState self.old s → outputs ≡ (with_room s (on_rec (ring_rule self.old.place.topology) self.old.place.site from command.now ballot s)).1) }
+        ensures state { OnOk result ((s : ProcessState) → IsState self.old s → IsState self.new (with_room s (on_rec (ring_rule self.old.place.topology) self.old.place.site from command.now ballot s)).0) }
     {
         let partition = self.place.site.partition;
         match stamp_at(&self.sheets, &self.place, command.id, partition) {
@@ -58,8 +58,8 @@ impl Process {
     ) -> Result<Outputs, NoMemory>
         requires { is_name_of self.old.place.topology from ≡ true }
         ensures identity { identity self.new ≡ identity self.old }
-        ensures outputs { IfOk result (λ outputs. (s : ProcessState) → IsState self.old s → IsProcess from → stamp.0 < the_limit → outputs ≡ (on_rec_ack (ring_setting self.old.place.topology) self.old.place.site from id stamp.0 made accepted ballot s).1) }
-        ensures state { OnOk result ((s : ProcessState) → IsState self.old s → IsProcess from → stamp.0 < the_limit → IsState self.new (on_rec_ack (ring_setting self.old.place.topology) self.old.place.site from id stamp.0 made accepted ballot s).0) }
+        ensures outputs { IfOk result (λ outputs. (s : ProcessState) → IsState self.old s → IsProcess from → stamp.0 < the_limit → outputs ≡ (on_rec_ack (ring_rule self.old.place.topology) self.old.place.site from id stamp.0 made accepted ballot s).1) }
+        ensures state { OnOk result ((s : ProcessState) → IsState self.old s → IsProcess from → stamp.0 < the_limit → IsState self.new (on_rec_ack (ring_rule self.old.place.topology) self.old.place.site from id stamp.0 made accepted ballot s).0) }
     {
         match from {
             ActorName::Process(site) => {
@@ -83,8 +83,8 @@ impl Process {
         ballot: u64,
     ) -> Result<Outputs, NoMemory>
         ensures identity { identity self.new ≡ identity self.old }
-        ensures outputs { IfOk result (λ outputs. (s : ProcessState) → IsState self.old s → is_between told.rank.0 self.old.place.topology.replicas ≡ true → told.stamp.0 < the_limit → outputs ≡ (on_rec_ack (ring_setting self.old.place.topology) self.old.place.site (ActorName.Process (site 0 told.rank.0)) id told.stamp.0 told.made told.accepted ballot s).1) }
-        ensures state { OnOk result ((s : ProcessState) → IsState self.old s → is_between told.rank.0 self.old.place.topology.replicas ≡ true → told.stamp.0 < the_limit → IsState self.new (on_rec_ack (ring_setting self.old.place.topology) self.old.place.site (ActorName.Process (site 0 told.rank.0)) id told.stamp.0 told.made told.accepted ballot s).0) }
+        ensures outputs { IfOk result (λ outputs. (s : ProcessState) → IsState self.old s → is_between told.rank.0 self.old.place.topology.replicas ≡ true → told.stamp.0 < the_limit → outputs ≡ (on_rec_ack (ring_rule self.old.place.topology) self.old.place.site (ActorName.Process (site 0 told.rank.0)) id told.stamp.0 told.made told.accepted ballot s).1) }
+        ensures state { OnOk result ((s : ProcessState) → IsState self.old s → is_between told.rank.0 self.old.place.topology.replicas ≡ true → told.stamp.0 < the_limit → IsState self.new (on_rec_ack (ring_rule self.old.place.topology) self.old.place.site (ActorName.Process (site 0 told.rank.0)) id told.stamp.0 told.made told.accepted ballot s).0) }
     {
         match answer(&mut self.sheets, &self.place, id, told, ballot) {
             Some(stamp) => self.put_to_vote(id, ballot, stamp),
@@ -98,8 +98,8 @@ impl Process {
         requires command { is_command_at self.old.place.topology self.old.place.site.partition.0 command.now ≡ true }
         requires unknown { stamp_of (kept_of self.old command.now.id).sheet self.old.place.site.partition.0 ≡ None }
         ensures identity { identity self.new ≡ identity self.old }
-        ensures outputs { IfOk result (λ outputs. (s : ProcessState) → IsState self.old s → outputs ≡ (with_room s (on_rec_by (ring_setting self.old.place.topology) self.old.place.site from command.now ballot None s)).1) }
-        ensures state { OnOk result ((s : ProcessState) → IsState self.old s → IsState self.new (with_room s (on_rec_by (ring_setting self.old.place.topology) self.old.place.site from command.now ballot None s)).0) }
+        ensures outputs { IfOk result (λ outputs. (s : ProcessState) → IsState self.old s → outputs ≡ (with_room s (on_rec_by (ring_rule self.old.place.topology) self.old.place.site from command.now ballot None s)).1) }
+        ensures state { OnOk result ((s : ProcessState) → IsState self.old s → IsState self.new (with_room s (on_rec_by (ring_rule self.old.place.topology) self.old.place.site from command.now ballot None s)).0) }
     {
         if !is_tried(ballot) {
             return Ok(self.nothing());
@@ -146,8 +146,8 @@ impl Process {
         requires above { nat_lt (kept_of self.old command.now.id).sheet.ballot ballot ≡ true }
         requires room { nat_lt self.old.clock.clock (the_limit - 1) ≡ true }
         ensures identity { identity self.new ≡ identity self.old }
-        ensures outputs { IfOk result (λ outputs. (s : ProcessState) → IsState self.old s → outputs ≡ (proposed_late (ring_setting self.old.place.topology) self.old.place.site from command.now ballot (next_stamp 0 s) (s.sheets command.now.id) s).1) }
-        ensures state { OnOk result ((s : ProcessState) → IsState self.old s → IsState self.new (proposed_late (ring_setting self.old.place.topology) self.old.place.site from command.now ballot (next_stamp 0 s) (s.sheets command.now.id) s).0) }
+        ensures outputs { IfOk result (λ outputs. (s : ProcessState) → IsState self.old s → outputs ≡ (proposed_late (ring_rule self.old.place.topology) self.old.place.site from command.now ballot (next_stamp 0 s) (s.sheets command.now.id) s).1) }
+        ensures state { OnOk result ((s : ProcessState) → IsState self.old s → IsState self.new (proposed_late (ring_rule self.old.place.topology) self.old.place.site from command.now ballot (next_stamp 0 s) (s.sheets command.now.id) s).0) }
     {
         let stamp = self.clock.propose(0);
         let copy = command.copy()?;

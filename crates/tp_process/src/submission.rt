@@ -2,7 +2,7 @@ ghost use Rattle.std.specs.Prelude.{◌≡◌, ◌≤◌, ◌<◌, ◌++◌, ◌
 ghost use Rattle.tp_process.specs.State.{IsState, identity, kept_of, takes_proposal, takes_submission};
 ghost use Rattle.tp_rules.specs.Addresses.{is_command_at, message};
 ghost use Rattle.tp_rules.specs.Process.{LIMIT as the_limit, ProcessState, bumps, on_bump, on_payload, on_propose, on_submit, proposals, with_room};
-ghost use Rattle.tp_rules.specs.Sheet.{command_or as kept_or, ring_setting};
+ghost use Rattle.tp_rules.specs.Sheet.{command_or as kept_or, ring_rule};
 ghost use Rattle.tp_topology.specs.Shape.{in_ring};
 
 use crate::addresses::{counterparts, send_each};
@@ -19,8 +19,8 @@ impl Process {
     pub(crate) fn on_submit(&mut self, command: &Command) -> Result<Outputs, NoMemory>
         requires { is_command_at self.old.place.topology self.old.place.site.partition.0 command.now ≡ true }
         ensures identity { identity self.new ≡ identity self.old }
-        ensures outputs { IfOk result (λ outputs. (s : ProcessState) → IsState self.old s → outputs ≡ (with_room s (on_submit (ring_setting self.old.place.topology) self.old.place.site command.now s)).1) }
-        ensures state { OnOk result ((s : ProcessState) → IsState self.old s → IsState self.new (with_room s (on_submit (ring_setting self.old.place.topology) self.old.place.site command.now s)).0) }
+        ensures outputs { IfOk result (λ outputs. (s : ProcessState) → IsState self.old s → outputs ≡ (with_room s (on_submit (ring_rule self.old.place.topology) self.old.place.site command.now s)).1) }
+        ensures state { OnOk result ((s : ProcessState) → IsState self.old s → IsState self.new (with_room s (on_submit (ring_rule self.old.place.topology) self.old.place.site command.now s)).0) }
     {
         if !self.takes_submission(command) {
             return Ok(self.nothing());
@@ -41,8 +41,8 @@ impl Process {
     ) -> Result<Outputs, NoMemory>
         requires { is_command_at self.old.place.topology self.old.place.site.partition.0 command.now ≡ true }
         ensures identity { identity self.new ≡ identity self.old }
-        ensures outputs { IfOk result (λ outputs. (s : ProcessState) → IsState self.old s → floor.0 < the_limit → outputs ≡ (with_room s (on_propose (ring_setting self.old.place.topology) self.old.place.site from command.now floor.0 s)).1) }
-        ensures state { OnOk result ((s : ProcessState) → IsState self.old s → floor.0 < the_limit → IsState self.new (with_room s (on_propose (ring_setting self.old.place.topology) self.old.place.site from command.now floor.0 s)).0) }
+        ensures outputs { IfOk result (λ outputs. (s : ProcessState) → IsState self.old s → floor.0 < the_limit → outputs ≡ (with_room s (on_propose (ring_rule self.old.place.topology) self.old.place.site from command.now floor.0 s)).1) }
+        ensures state { OnOk result ((s : ProcessState) → IsState self.old s → floor.0 < the_limit → IsState self.new (with_room s (on_propose (ring_rule self.old.place.topology) self.old.place.site from command.now floor.0 s)).0) }
     {
         if LIMIT <= floor.0 || !self.takes_proposal(command) {
             return Ok(self.nothing());
@@ -91,7 +91,7 @@ impl Process {
     /// What the home sends of a command that is submitted.
     fn submission(&self, command: &Command, stamp: Stamp) -> Result<Outputs, NoMemory>
         requires { (1 ≤ command.now.home.0) × (command.now.home.0 ≤ self.now.place.topology.replicas) }
-        ensures { IfOk result (λ outputs. outputs ≡ proposals (ring_setting self.now.place.topology) self.now.place.site command.now stamp.0 ++ bumps self.now.place.topology self.now.place.site (kept_or command.now (kept_of self.now command.now.id).sheet) stamp.0) }
+        ensures { IfOk result (λ outputs. outputs ≡ proposals (ring_rule self.now.place.topology) self.now.place.site command.now stamp.0 ++ bumps self.now.place.topology self.now.place.site (kept_or command.now (kept_of self.now command.now.id).sheet) stamp.0) }
     {
         let mut outputs = self.nothing();
         ask_for_proposals(&mut outputs, &self.place, command, stamp)?;
@@ -147,7 +147,7 @@ fn ask_for_proposals(
     stamp: Stamp,
 ) -> Result<(), NoMemory>
     requires { (1 ≤ command.now.home.0) × (command.now.home.0 ≤ place.now.topology.replicas) }
-    ensures { OnOk result (outputs.new ≡ outputs.old ++ proposals (ring_setting place.now.topology) place.now.site command.now stamp.0) }
+    ensures { OnOk result (outputs.new ≡ outputs.old ++ proposals (ring_rule place.now.topology) place.now.site command.now stamp.0) }
 {
     for number in 1..place.topology.replicas() + 1 {
         let rank = Rank(number);

@@ -22,7 +22,7 @@ use Rattle.tp_rules.specs.Addresses.{rank_of, partition_of, is_name_of, is_body_
 use Rattle.tp_rules.specs.Executor as executor
 use Rattle.tp_rules.specs.Process as process
 use Rattle.tp_rules.specs.Session as session
-use Rattle.tp_rules.specs.Sheet.{Sheet, Setting, blank, stamp_of, is_fresh, kept, with_proposal, can_acknowledge, acknowledged, acknowledged_own, is_full, putting, can_accept, with_accepted, can_vote, with_vote, has_consensus, is_untouched, with_ballot, trying, can_answer, with_answer, is_recovered, with_stamp, final_stamp}
+use Rattle.tp_rules.specs.Sheet.{Sheet, QuorumRule, blank, stamp_of, is_fresh, kept, with_proposal, can_acknowledge, acknowledged, acknowledged_own, is_full, putting, can_accept, with_accepted, can_vote, with_vote, has_consensus, is_untouched, with_ballot, trying, can_answer, with_answer, is_recovered, with_stamp, final_stamp}
 use Rattle.tp_rules.specs.Tables.{nth}
 use Rattle.tp_rules.specs.declared.event.Inner.TheVariants.{Submit, Recover, Announce, Declare, Execute, Crash}
 use Rattle.tp_topology.specs.Ballots.{next_ballot}
@@ -81,7 +81,7 @@ module _ (P : Command → Type 0) where
   put_sheet sheets id sheet h k other = cond_both (same_id id other) sheet (sheets other) (λ (x : Sheet). Keeps P other x.command)
       (λ e. subst (λ (i : CommandId). Keeps P i sheet.command) (same_id_is id other e) h) (λ e. k other)
 
-  own_command : (s : Setting) (p own t : ℕ) (sheet : Sheet) → (acknowledged_own s p own t sheet).command ≡ sheet.command
+  own_command : (s : QuorumRule) (p own t : ℕ) (sheet : Sheet) → (acknowledged_own s p own t sheet).command ≡ sheet.command
   own_command s p own t sheet =
       cond_both (can_acknowledge s p own own sheet) (acknowledged own t sheet) sheet (λ (x : Sheet). x.command ≡ sheet.command) (λ e. refl)
       (λ e. refl)
@@ -105,18 +105,18 @@ module _ (P : Command → Type 0) where
       (λ e. put_sheet state.sheets id sheet k h)
       (λ e. finished_keeps me id known known.command final state (put_sheet state.sheets id known k h))
 
-  chosen_keeps : (s : Setting) (me : Site) (id : CommandId) (choice : FastChoice) (sheet : Sheet) (state : process.ProcessState) →
+  chosen_keeps : (s : QuorumRule) (me : Site) (id : CommandId) (choice : FastChoice) (sheet : Sheet) (state : process.ProcessState) →
       KeepsOnly P state → Keeps P id sheet.command → Kept (process.chosen s me id choice sheet state)
   chosen_keeps s me id (Fast t) sheet state h k = learned_keeps s.shape me id me.partition.0 t.0 sheet state h k
   chosen_keeps s me id (Slow t) sheet state h k = put_sheet state.sheets id (putting s.shape me.rank.0 t.0 sheet) k h
 
-  voted_keeps : (s : Setting) (me : Site) (id : CommandId) (sheet : Sheet) (state : process.ProcessState) →
+  voted_keeps : (s : QuorumRule) (me : Site) (id : CommandId) (sheet : Sheet) (state : process.ProcessState) →
       KeepsOnly P state → Keeps P id sheet.command → Kept (process.voted s me id sheet state)
   voted_keeps s me id sheet state h k =
       cond_both (has_consensus s.shape sheet) (process.decided s.shape me id sheet.putting_stamp sheet state) (process.with_sheet id sheet state, []) Kept
       (λ e. learned_keeps s.shape me id me.partition.0 sheet.putting_stamp sheet state h k) (λ e. put_sheet state.sheets id sheet k h)
 
-  rec_keeps : (s : Setting) (me : Site) (from : ActorName) (c : Command) (b : ℕ) (o : Option ℕ) (state : process.ProcessState) →
+  rec_keeps : (s : QuorumRule) (me : Site) (from : ActorName) (c : Command) (b : ℕ) (o : Option ℕ) (state : process.ProcessState) →
       KeepsOnly P state → P c → Kept (process.on_rec_by s me from c b o state)
   rec_keeps s me from c b (Some t) state h p = h
   rec_keeps s me from c b None state h p =
@@ -129,10 +129,10 @@ module _ (P : Command → Type 0) where
       (λ not_late. put_sheet state.sheets c.id (with_ballot b (kept c sheet)) more h))
       (λ e. h)
 
-  put_recovered_keeps : (shape : Shape) (me : Site) (id : CommandId) (b : ℕ) (o : Option Command) (sheet : Sheet) (state : process.ProcessState) →
-      KeepsOnly P state → Keeps P id sheet.command → Kept (process.put_recovered shape me id b o sheet state)
-  put_recovered_keeps shape me id b None sheet state h k = put_sheet state.sheets id sheet k h
-  put_recovered_keeps shape me id b (Some c) sheet state h k = put_sheet state.sheets id (putting shape b _ sheet) k h
+  put_recovered_keeps : (s : QuorumRule) (me : Site) (id : CommandId) (b : ℕ) (o : Option Command) (sheet : Sheet) (state : process.ProcessState) →
+      KeepsOnly P state → Keeps P id sheet.command → Kept (process.put_recovered s me id b o sheet state)
+  put_recovered_keeps s me id b None sheet state h k = put_sheet state.sheets id sheet k h
+  put_recovered_keeps s me id b (Some c) sheet state h k = put_sheet state.sheets id (putting s.shape b _ sheet) k h
 
   recover_keeps : (shape : Shape) (me : Site) (id : CommandId) (state : process.ProcessState) → KeepsOnly P state → Kept (process.on_recover shape me id state)
   recover_keeps shape me id state h =
@@ -142,7 +142,7 @@ module _ (P : Command → Type 0) where
       (process.recovering shape me id b sheet state) (state, []) Kept
       (λ e. put_sheet state.sheets id (trying shape b sheet) (h id) h) (λ e. h)
 
-  row_keeps : (s : Setting) (me : Site) (from : ActorName) (body : Body) (state : process.ProcessState) →
+  row_keeps : (s : QuorumRule) (me : Site) (from : ActorName) (body : Body) (state : process.ProcessState) →
       KeepsOnly P state → Carries P body → Kept (process.on_body s me from body state)
   row_keeps s me from (MSubmit c) state h p =
       let sheet = state.sheets c.id in
@@ -187,16 +187,16 @@ module _ (P : Command → Type 0) where
   row_keeps s me from (MRecAck id t made a b) state h p =
       let new : RecoveryAnswer = record { rank = record { 0 = rank_of from }; stamp = record { 0 = t.0 }; made = made; accepted = a } in
       let sheet = with_answer new (state.sheets id) in
-      cond_both (can_answer me.partition.0 b (rank_of from) (state.sheets id)) (process.recovered s.shape me id b sheet state) (state, []) Kept
-      (λ e. cond_both (is_recovered s.shape sheet) (process.put_recovered s.shape me id b sheet.command sheet state) (process.with_sheet id sheet state, []) Kept
-      (λ all. put_recovered_keeps s.shape me id b sheet.command sheet state h (h id)) (λ all. put_sheet state.sheets id sheet (h id) h))
+      cond_both (can_answer me.partition.0 b (rank_of from) (state.sheets id)) (process.recovered s me id b sheet state) (state, []) Kept
+      (λ e. cond_both (is_recovered s.shape sheet) (process.put_recovered s me id b sheet.command sheet state) (process.with_sheet id sheet state, []) Kept
+      (λ all. put_recovered_keeps s me id b sheet.command sheet state h (h id)) (λ all. put_sheet state.sheets id sheet (h id) h))
       (λ e. h)
   row_keeps s me from (MPromises lo hi pairs) state h p = h
   row_keeps s me from (MCommitted c t) state h p = h
   row_keeps s me from (MStable id) state h p = h
   row_keeps s me from (MResult id q answers) state h p = h
 
-  message_keeps : (s : Setting) (me : Site) (m : Message) (state : process.ProcessState) → KeepsOnly P state → Carries P m.body →
+  message_keeps : (s : QuorumRule) (me : Site) (m : Message) (state : process.ProcessState) → KeepsOnly P state → Carries P m.body →
       Kept (process.on_message s me m state)
   message_keeps s me m state h p =
       let moved = process.on_body s me m.from m.body state in
@@ -205,7 +205,7 @@ module _ (P : Command → Type 0) where
       (λ e. cond_both (nat_lt moved.0.clock process.LIMIT) moved (state, []) Kept (λ room. row_keeps s me m.from m.body state h p) (λ room. h))
       (λ e. h)
 
-  process_keeps : (s : Setting) (me : Site) (act : Act) (state : process.ProcessState) → KeepsOnly P state → Takes P act →
+  process_keeps : (s : QuorumRule) (me : Site) (act : Act) (state : process.ProcessState) → KeepsOnly P state → Takes P act →
       Kept (process.react s me act state)
   process_keeps s me (Took m) state h p = message_keeps s me m state h p
   process_keeps s me (Did Announce) state h p =
@@ -218,7 +218,7 @@ module _ (P : Command → Type 0) where
   process_keeps s me (Did Crash) state h p = h
 
   -- a process keeps what passes
-  pub process_keeps_only : (s : Setting) (me : Site) (acts : List Act) → Each (Takes P) acts → KeepsOnly P (process.state_after s me acts)
+  pub process_keeps_only : (s : QuorumRule) (me : Site) (acts : List Act) → Each (Takes P) acts → KeepsOnly P (process.state_after s me acts)
   unfolding blank
   process_keeps_only s me [] h = λ id. tt
   process_keeps_only s me (act ∷ before) h = process_keeps s me act (process.state_after s me before) (process_keeps_only s me before h.1) h.0
@@ -226,7 +226,7 @@ module _ (P : Command → Type 0) where
   abbrev Passes : Message → Type 0
   Passes m = Carries P m.body
 
-  row_sends : (s : Setting) (me : Site) (from : ActorName) (body : Body) (state : process.ProcessState) →
+  row_sends : (s : QuorumRule) (me : Site) (from : ActorName) (body : Body) (state : process.ProcessState) →
       KeepsOnly P state → Carries P body → EachSent Passes (process.on_body s me from body state)
   row_sends s me from (MSubmit c) state h p = on_submit_sends Passes me s c state (λ to t. p) (λ to. p) (λ to id t. tt)
   row_sends s me from (MPropose c floor) state h p = on_propose_sends Passes me s from c floor.0 state (λ t. tt) (λ to id t. tt)
@@ -253,7 +253,7 @@ module _ (P : Command → Type 0) where
   row_sends s me from (MResult id q answers) state h p = tt
 
   -- and sends it
-  pub process_sends_only : (s : Setting) (me : Site) (act : Act) (state : process.ProcessState) → KeepsOnly P state → Takes P act →
+  pub process_sends_only : (s : QuorumRule) (me : Site) (act : Act) (state : process.ProcessState) → KeepsOnly P state → Takes P act →
       EachSent Passes (process.react s me act state)
   process_sends_only s me (Took m) state h p =
       let moved = process.on_body s me m.from m.body state in

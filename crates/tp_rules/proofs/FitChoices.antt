@@ -2,17 +2,19 @@
 -- of the fast quorum.
 use Rattle.std.proofs.Common.{◌≡◌, ℕ, zero, suc, ◌+◌, ◌-◌, ◌/◌, ◌%◌, ◌^◌, ◌<◌, ◌≤◌, inl, inr, Bool, true, false, cond, max, List, [], ◌∷◌, length, replicate, set, Option, Some, None, is_some, refl, sym, ap, subst, ◌∙◌, arith}
 use Rattle.std.proofs.Math.Nat.{mod-lt}
-use Rattle.std.proofs.lemmas.Bool.{and_parts, cond_both, leb-true, ltb-true, or_cases}
+use Rattle.std.proofs.lemmas.Bool.{and_parts, cond_both, eqb-true, ltb-true, or_cases}
 use Rattle.std.proofs.lemmas.List.{length-replicate}
 use Rattle.std.specs.List.{list_any}
-use Rattle.std.specs.Prelude.{nat_le, nat_lt, slice_get, ◌||◌}
+use Rattle.std.specs.Prelude.{nat_lt, slice_get, ◌||◌, ◌==◌}
 use Rattle.tp_base.proofs.Each.{each_in, each_weaker}
 use Rattle.tp_base.specs.Lists.{Each, IsIn}
-use Rattle.tp_choice.specs.Choosing.{best_from, better, chosen_of_proposals, chosen_with, greatest_by, is_member, is_over, member_stamp, recovery_choice, tells_slow}
+use Rattle.tp_choice.specs.Choosing.{best_from, better, chosen_of_proposals, chosen_with, greatest_by, is_over, member_stamp, recovery_choice, tells_slow}
 use Rattle.tp_choice.specs.declared.answer.RecoveryAnswer.{RecoveryAnswer}
+use Rattle.tp_ops.specs.declared.command.Command.{Command}
 use Rattle.tp_quorum.specs.Choice.{present}
 use Rattle.tp_rules.proofs.FitStamps.{with_fit}
 use Rattle.tp_rules.proofs.Selections.{IfAny, each_replicate}
+use Rattle.tp_rules.specs.Sheet.{QuorumRule, ring_rule}
 use Rattle.tp_rules.specs.Tables.{flat, kept_at, with_nth}
 use Rattle.tp_topology.proofs.Meetings.{IsShared, shared}
 use Rattle.tp_topology.proofs.Passing.{all_each}
@@ -32,29 +34,35 @@ next_ballot_number shape rank own tried is own_low tried_low =
     let low : from ≤ 2 ^ 48 - 8 = omega (arith, own_low, tried_low, is.few_replicas) in
     (omega arith, omega (arith, few, low, is.few_replicas))
 
--- the ring of each home has the fast quorum's size
+-- each fast quorum has the fast size, where the home is a rank
+abbrev pub HasFastSize : QuorumRule → Type 0
+HasFastSize s = (c : Command) → 1 ≤ c.home.0 → c.home.0 ≤ s.shape.replicas → count_up_to (s.in_quorum c) s.shape.replicas ≡ fast_size s.shape
 
-abbrev is_whole : ℕ → ℕ → ℕ → Bool
-is_whole r f home = let shape : Shape = record { partitions = 1; replicas = r; failures = f } in
-    nat_lt ((r - 1) / 2) f || nat_le (fast_size shape) (count_up_to (in_ring shape home) r)
+-- the ring of each home has it, by computing each shape
 
-all_whole : all_up_to (λ r. all_up_to (λ f. all_up_to (is_whole r f) 7) 3) 7 ≡ true
-all_whole = refl
+abbrev is_sized : ℕ → ℕ → ℕ → Bool
+is_sized r f home = let shape : Shape = record { partitions = 1; replicas = r; failures = f } in
+    nat_lt ((r - 1) / 2) f || (nat_lt r home || (count_up_to (in_ring shape home) r == fast_size shape))
 
-ring_whole : (shape : Shape) (home : ℕ) → IsShape shape → 1 ≤ home → home ≤ shape.replicas
-    → fast_size shape ≤ count_up_to (in_ring shape home) shape.replicas
-ring_whole shape home is some few =
-    let of_replicas : all_up_to (λ f. all_up_to (is_whole shape.replicas f) 7) 3 ≡ true =
-    all_each (λ r. all_up_to (λ f. all_up_to (is_whole r f) 7) 3) 7 shape.replicas all_whole (omega (arith, is.some_replicas)) is.few_replicas in
-    let of_failures : all_up_to (is_whole shape.replicas shape.failures) 7 ≡ true =
-    all_each (λ f. all_up_to (is_whole shape.replicas f) 7) 3 shape.failures of_replicas is.some_failure
-    (omega (arith, is.minority, is.few_replicas)) in
-    let of_home : is_whole shape.replicas shape.failures home ≡ true =
-    all_each (is_whole shape.replicas shape.failures) 7 home of_failures some (omega (arith, few, is.few_replicas)) in
-    elim (or_cases (nat_lt ((shape.replicas - 1) / 2) shape.failures)
-    (nat_le (fast_size shape) (count_up_to (in_ring shape home) shape.replicas)) of_home) [
-      | inl many ↦ let high = ltb-true ((shape.replicas - 1) / 2) shape.failures many in absurd (omega (arith, high, is.minority))
-      | inr enough ↦ leb-true (fast_size shape) (count_up_to (in_ring shape home) shape.replicas) enough
+all_sized : all_up_to (λ r. all_up_to (λ f. all_up_to (is_sized r f) 7) 3) 7 ≡ true
+all_sized = refl
+
+pub ring_has_fast_size : (shape : Shape) → IsShape shape → HasFastSize (ring_rule shape)
+ring_has_fast_size shape is c some few =
+    let r : ℕ = shape.replicas in
+    let f : ℕ = shape.failures in
+    let home : ℕ = c.home.0 in
+    let of_replicas : all_up_to (λ f. all_up_to (is_sized r f) 7) 3 ≡ true =
+    all_each (λ r. all_up_to (λ f. all_up_to (is_sized r f) 7) 3) 7 r all_sized (omega (arith, is.some_replicas)) is.few_replicas in
+    let of_failures : all_up_to (is_sized r f) 7 ≡ true =
+    all_each (λ f. all_up_to (is_sized r f) 7) 3 f of_replicas is.some_failure (omega (arith, is.minority, is.few_replicas)) in
+    let of_home : is_sized r f home ≡ true = all_each (is_sized r f) 7 home of_failures some (omega (arith, few, is.few_replicas)) in
+    elim (or_cases (nat_lt ((r - 1) / 2) f) (nat_lt r home || (count_up_to (in_ring shape home) r == fast_size shape)) of_home) [
+      | inl many ↦ let high = ltb-true ((r - 1) / 2) f many in absurd (omega (arith, high, is.minority))
+      | inr rest ↦ elim (or_cases (nat_lt r home) (count_up_to (in_ring shape home) r == fast_size shape) rest) [
+        | inl beyond ↦ let high = ltb-true r home beyond in absurd (omega (arith, high, few))
+        | inr same ↦ eqb-true (count_up_to (in_ring shape home) r) (fast_size shape) same
+      ]
     ]
 
 -- tables of answers
@@ -112,23 +120,23 @@ pub record AreAnswers (replicas : ℕ) (answers : List (Option RecoveryAnswer)) 
   pub placed : (k : ℕ) → IfAny (λ a. a.rank.0 ≡ k) (kept_at answers k)
 
 -- of as many as a recovery quorum has, one is of the fast quorum
-some_member : (shape : Shape) (home : ℕ) (answers : List (Option RecoveryAnswer)) → IsShape shape → 1 ≤ home → home ≤ shape.replicas
-    → AreAnswers shape.replicas answers → length (present answers) ≡ recovery_size shape
-    → (a : RecoveryAnswer) × IsIn a (present answers) × (is_member shape home a ≡ true)
-some_member shape home answers is some few are as_many =
-    let counted : length (present answers) ≤ count_up_to (is_there answers) shape.replicas = present_counted answers shape.replicas are.few in
-    let whole : fast_size shape ≤ count_up_to (in_ring shape home) shape.replicas = ring_whole shape home is some few in
-    let both : IsShared (in_ring shape home) (is_there answers) shape.replicas =
-    shared (in_ring shape home) (is_there answers) shape.replicas
+some_member : (s : QuorumRule) → HasFastSize s → (c : Command) (answers : List (Option RecoveryAnswer)) → IsShape s.shape
+    → 1 ≤ c.home.0 → c.home.0 ≤ s.shape.replicas → AreAnswers s.shape.replicas answers → length (present answers) ≡ recovery_size s.shape
+    → (a : RecoveryAnswer) × IsIn a (present answers) × (s.in_quorum c a.rank.0 ≡ true)
+some_member s sized c answers is some few are as_many =
+    let counted : length (present answers) ≤ count_up_to (is_there answers) s.shape.replicas = present_counted answers s.shape.replicas are.few in
+    let whole : count_up_to (s.in_quorum c) s.shape.replicas ≡ fast_size s.shape = sized c some few in
+    let both : IsShared (s.in_quorum c) (is_there answers) s.shape.replicas =
+    shared (s.in_quorum c) (is_there answers) s.shape.replicas
     (omega (arith, counted, whole, as_many, is.some_replicas, is.some_failure, is.minority)) in
     go both.rank (kept_at answers both.rank) refl (are.placed both.rank) both.first both.second
   where
-    go : (k : ℕ) (o : Option RecoveryAnswer) → kept_at answers k ≡ o → IfAny (λ a. a.rank.0 ≡ k) (kept_at answers k) → in_ring shape home k ≡ true
-        → is_there answers k ≡ true → (a : RecoveryAnswer) × IsIn a (present answers) × (is_member shape home a ≡ true)
-    go k None e placed ring there = absurd cc
-    go k (Some a) e placed ring there =
+    go : (k : ℕ) (o : Option RecoveryAnswer) → kept_at answers k ≡ o → IfAny (λ a. a.rank.0 ≡ k) (kept_at answers k) → s.in_quorum c k ≡ true
+        → is_there answers k ≡ true → (a : RecoveryAnswer) × IsIn a (present answers) × (s.in_quorum c a.rank.0 ≡ true)
+    go k None e placed member there = absurd cc
+    go k (Some a) e placed member there =
         let here : a.rank.0 ≡ k = subst (IfAny (λ (a : RecoveryAnswer). a.rank.0 ≡ k)) e placed in
-        (a, present_kept answers k a e, subst (λ (j : ℕ). in_ring shape home j ≡ true) (sym here) ring)
+        (a, present_kept answers k a e, subst (λ (j : ℕ). s.in_quorum c j ≡ true) (sym here) member)
 
 -- what is chosen
 
@@ -153,54 +161,54 @@ best_fit P found (a ∷ answers) h all = best_fit P (Some (better a found)) answ
 abbrev IsStamped : RecoveryAnswer → Type 0
 IsStamped a = IsNumber a.stamp.0
 
-member_stamp_low : (shape : Shape) (home : ℕ) (a : RecoveryAnswer) → IsStamped a → member_stamp shape home a ≤ 2 ^ 48 - 1
-member_stamp_low shape home a h = cond_both (is_member shape home a) a.stamp.0 0 (λ (n : ℕ). n ≤ 2 ^ 48 - 1) (λ t. h.1) (λ f. omega arith)
+member_stamp_low : (in_quorum : ℕ → Bool) (a : RecoveryAnswer) → IsStamped a → member_stamp in_quorum a ≤ 2 ^ 48 - 1
+member_stamp_low in_quorum a h = cond_both (in_quorum a.rank.0) a.stamp.0 0 (λ (n : ℕ). n ≤ 2 ^ 48 - 1) (λ t. h.1) (λ f. omega arith)
 
-member_stamp_high : (shape : Shape) (home : ℕ) (a : RecoveryAnswer) → is_member shape home a ≡ true → IsStamped a → 1 ≤ member_stamp shape home a
-member_stamp_high shape home a member h =
-    cond_both (is_member shape home a) a.stamp.0 0 (λ (n : ℕ). 1 ≤ n) (λ t. h.0) (λ f. absurd cc)
+member_stamp_high : (in_quorum : ℕ → Bool) (a : RecoveryAnswer) → in_quorum a.rank.0 ≡ true → IsStamped a → 1 ≤ member_stamp in_quorum a
+member_stamp_high in_quorum a member h =
+    cond_both (in_quorum a.rank.0) a.stamp.0 0 (λ (n : ℕ). 1 ≤ n) (λ t. h.0) (λ f. absurd cc)
 
-proposals_number : (shape : Shape) (home : ℕ) (answers : List RecoveryAnswer) (a : RecoveryAnswer) → Each IsStamped answers
-    → IsIn a answers → is_member shape home a ≡ true → IsNumber (chosen_of_proposals shape home answers)
-proposals_number shape home answers a all there member =
+proposals_number : (in_quorum : ℕ → Bool) (home : ℕ) (answers : List RecoveryAnswer) (a : RecoveryAnswer) → Each IsStamped answers
+    → IsIn a answers → in_quorum a.rank.0 ≡ true → IsNumber (chosen_of_proposals in_quorum home answers)
+proposals_number in_quorum home answers a all there member =
     let one : IsStamped a = each_in IsStamped answers a all there in
-    cond_both (list_any (tells_slow shape home) answers) (greatest_by (λ a. a.stamp.0) answers) (greatest_by (member_stamp shape home) answers) IsNumber
+    cond_both (list_any (tells_slow in_quorum home) answers) (greatest_by (λ a. a.stamp.0) answers) (greatest_by (member_stamp in_quorum) answers) IsNumber
     (λ t.
     let high : a.stamp.0 ≤ greatest_by (λ a. a.stamp.0) answers = greatest_by_high (λ a. a.stamp.0) answers a there in
     let low : greatest_by (λ a. a.stamp.0) answers ≤ 2 ^ 48 - 1 = greatest_by_low (λ a. a.stamp.0) answers (2 ^ 48 - 1)
     (each_weaker IsStamped (λ a. a.stamp.0 ≤ 2 ^ 48 - 1) (λ a h. h.1) answers all) in
     (omega (arith, high, one.0), low))
     (λ f.
-    let some : 1 ≤ member_stamp shape home a = member_stamp_high shape home a member one in
-    let high : member_stamp shape home a ≤ greatest_by (member_stamp shape home) answers = greatest_by_high (member_stamp shape home) answers a there in
-    let low : greatest_by (member_stamp shape home) answers ≤ 2 ^ 48 - 1 = greatest_by_low (member_stamp shape home) answers (2 ^ 48 - 1)
-    (each_weaker IsStamped (λ a. member_stamp shape home a ≤ 2 ^ 48 - 1) (λ a h. member_stamp_low shape home a h) answers all) in
+    let some : 1 ≤ member_stamp in_quorum a = member_stamp_high in_quorum a member one in
+    let high : member_stamp in_quorum a ≤ greatest_by (member_stamp in_quorum) answers = greatest_by_high (member_stamp in_quorum) answers a there in
+    let low : greatest_by (member_stamp in_quorum) answers ≤ 2 ^ 48 - 1 = greatest_by_low (member_stamp in_quorum) answers (2 ^ 48 - 1)
+    (each_weaker IsStamped (λ a. member_stamp in_quorum a ≤ 2 ^ 48 - 1) (λ a h. member_stamp_low in_quorum a h) answers all) in
     (omega (arith, high, some), low))
 
-chosen_number : (shape : Shape) (home : ℕ) (answers : List RecoveryAnswer) (best : Option RecoveryAnswer) → IfAny IsStamped best
-    → IsNumber (chosen_of_proposals shape home answers) → IsNumber (chosen_with shape home answers best)
-chosen_number shape home answers None h of_proposals = of_proposals
-chosen_number shape home answers (Some best) h of_proposals =
-    cond_both (nat_lt 0 best.accepted) best.stamp.0 (chosen_of_proposals shape home answers) IsNumber (λ t. h) (λ f. of_proposals)
+chosen_number : (in_quorum : ℕ → Bool) (home : ℕ) (answers : List RecoveryAnswer) (best : Option RecoveryAnswer) → IfAny IsStamped best
+    → IsNumber (chosen_of_proposals in_quorum home answers) → IsNumber (chosen_with in_quorum home answers best)
+chosen_number in_quorum home answers None h of_proposals = of_proposals
+chosen_number in_quorum home answers (Some best) h of_proposals =
+    cond_both (nat_lt 0 best.accepted) best.stamp.0 (chosen_of_proposals in_quorum home answers) IsNumber (λ t. h) (λ f. of_proposals)
 
-choice_of_some : (shape : Shape) (home : ℕ) (answers : List RecoveryAnswer) (a : RecoveryAnswer) → Each IsStamped answers
-    → IsIn a answers → is_member shape home a ≡ true → IsNumber (recovery_choice shape home answers)
+choice_of_some : (in_quorum : ℕ → Bool) (home : ℕ) (answers : List RecoveryAnswer) (a : RecoveryAnswer) → Each IsStamped answers
+    → IsIn a answers → in_quorum a.rank.0 ≡ true → IsNumber (recovery_choice in_quorum home answers)
 unfolding recovery_choice
-choice_of_some shape home answers a all there member =
-    chosen_number shape home answers (best_from None answers) (best_fit IsStamped None answers tt all)
-    (proposals_number shape home answers a all there member)
+choice_of_some in_quorum home answers a all there member =
+    chosen_number in_quorum home answers (best_from None answers) (best_fit IsStamped None answers tt all)
+    (proposals_number in_quorum home answers a all there member)
 
 present_stamped : (table : List (Option RecoveryAnswer)) → Each (IfAny IsStamped) table → Each IsStamped (present table)
 present_stamped [] h = tt
 present_stamped (None ∷ table) h = present_stamped table h.1
 present_stamped (Some x ∷ table) h = (h.0, present_stamped table h.1)
 
-pub recovery_number : (shape : Shape) (home : ℕ) (answers : List (Option RecoveryAnswer)) → IsShape shape → 1 ≤ home → home ≤ shape.replicas
-    → AreAnswers shape.replicas answers → length (present answers) ≡ recovery_size shape
-    → IsNumber (recovery_choice shape home (present answers))
-recovery_number shape home answers is some few are as_many =
-    let one = some_member shape home answers is some few are as_many in
-    choice_of_some shape home (present answers) one.0 (present_stamped answers are.numbers) one.1 one.2
+pub recovery_number : (s : QuorumRule) → HasFastSize s → (c : Command) (answers : List (Option RecoveryAnswer)) → IsShape s.shape
+    → 1 ≤ c.home.0 → c.home.0 ≤ s.shape.replicas → AreAnswers s.shape.replicas answers → length (present answers) ≡ recovery_size s.shape
+    → IsNumber (recovery_choice (s.in_quorum c) c.home.0 (present answers))
+recovery_number s sized c answers is some few are as_many =
+    let one = some_member s sized c answers is some few are as_many in
+    choice_of_some (s.in_quorum c) c.home.0 (present answers) one.0 (present_stamped answers are.numbers) one.1 one.2
 
 -- one answer more
 

@@ -23,15 +23,15 @@ use Rattle.tp_quorum.specs.Choice.{fast_choice, present}
 use Rattle.tp_quorum.specs.declared.choice.FastChoice.{FastChoice}
 use Rattle.tp_quorum.specs.declared.choice.FastChoice.TheVariants.{Fast, Slow}
 use Rattle.tp_rules.proofs.Fit.{IsBodyOf, IsCommandHere, IsFit, IsFitAct, IsProcessOf, known_process}
-use Rattle.tp_rules.proofs.FitChoices.{next_ballot_number, recovery_number}
+use Rattle.tp_rules.proofs.FitChoices.{HasFastSize, next_ballot_number, recovery_number}
 use Rattle.tp_rules.proofs.FitProcesses.{IsProcessSound, IsSheetSound, acknowledged_sound, bumped_sound, command_or_here, ids_of, kept_sound, proposing_sound, putting_sound, stamp_told_number, start_sound, touched_before, trying_sound, with_accepted_sound, with_answer_sound, with_ballot_sound, with_proposal_sound, with_sheet_sound, with_stamp_sound, with_vote_sound}
-use Rattle.tp_rules.proofs.FitSends.{announced_fit, asked_fit, bumps_fit, commits_fit, is_command, own_ballot, own_partition, own_site, proposals_fit, setting_of, told_fit, votes_fit}
+use Rattle.tp_rules.proofs.FitSends.{announced_fit, asked_fit, bumps_fit, commits_fit, is_command, own_ballot, own_partition, own_site, proposals_fit, quorum_rule_of, told_fit, votes_fit}
 use Rattle.tp_rules.proofs.FitStamps.{IsChoiceInRange, choice_number, final_number, kept_fit, present_fit}
 use Rattle.tp_rules.proofs.Selections.{IfAny, each_get}
 use Rattle.tp_rules.specs.Acts.{Act, Took, Did}
 use Rattle.tp_rules.specs.Addresses.{is_between, is_body_at, is_name_of, is_site_of, rank_of}
 use Rattle.tp_rules.specs.Process.{LIMIT, Moved, ProcessState, accepted as acceptance, agreed, announced, answer, bumps, chosen, commits, decided, finished, gathered, has_next, joined, learned, next_stamp, on_announce, on_body, on_commit, on_consensus, on_consensus_ack, on_payload, on_propose, on_propose_ack, on_rec, on_rec_ack, on_rec_by, on_recover, on_submit, proposals, proposed, proposed_late, put_recovered, react, recovered, recovering, state_after, submitted, voted, with_room, with_sheet}
-use Rattle.tp_rules.specs.Sheet.{Setting, Sheet, acknowledged, acknowledged_own, can_accept, can_acknowledge, can_answer, can_vote, command_or, final_stamp, has_consensus, is_fresh, is_full, is_recovered, is_untouched, kept, putting, stamp_of, trying, with_accepted, with_answer, with_ballot, with_proposal, with_stamp, with_vote}
+use Rattle.tp_rules.specs.Sheet.{QuorumRule, Sheet, acknowledged, acknowledged_own, can_accept, can_acknowledge, can_answer, can_vote, command_or, final_stamp, has_consensus, is_fresh, is_full, is_recovered, is_untouched, kept, putting, stamp_of, trying, with_accepted, with_answer, with_ballot, with_proposal, with_stamp, with_vote}
 use Rattle.tp_rules.specs.declared.event.Inner.TheVariants.{Announce, Recover}
 use Rattle.tp_script.specs.Accepted.{IsAccepted, IsCommandOf, IsHome}
 use Rattle.tp_script.specs.declared.script.Script.{Script}
@@ -41,10 +41,10 @@ use Rattle.tp_wire.specs.Ranges.{IsBody, IsNumber}
 use Rattle.tp_wire.specs.declared.message.Body.{Body}
 use Rattle.tp_wire.specs.declared.message.Body.TheVariants.{MSubmit, MPropose, MPayload, MProposeAck, MBump, MConsensus, MConsensusAck, MCommit, MRec, MRecAck}
 
-module _ (script : Script) (accepted : IsAccepted script) (in_quorum : Command → ℕ → Bool) (me : Site)
-    (here : is_site_of script.topology me ≡ true) where
-  abbrev pub setting : Setting
-  setting = setting_of script in_quorum
+module _ (script : Script) (accepted : IsAccepted script) (in_quorum : Command → ℕ → Bool)
+    (sized : HasFastSize (quorum_rule_of script in_quorum)) (me : Site) (here : is_site_of script.topology me ≡ true) where
+  abbrev pub quorum_rule : QuorumRule
+  quorum_rule = quorum_rule_of script in_quorum
 
   abbrev pub IsSound : ProcessState → Type 0
   IsSound state = IsProcessSound script me.partition.0 state
@@ -109,7 +109,7 @@ module _ (script : Script) (accepted : IsAccepted script) (in_quorum : Command �
       )
 
   chosen_fit : (id : CommandId) (choice : FastChoice) (sheet : Sheet) (state : ProcessState) → IsSound state → IsSheet sheet
-      → sheet.proposal ≡ (state.sheets id).proposal → IsChoiceInRange choice → Goes (chosen setting me id choice sheet state)
+      → sheet.proposal ≡ (state.sheets id).proposal → IsChoiceInRange choice → Goes (chosen quorum_rule me id choice sheet state)
   chosen_fit id (Fast t) sheet state sound new same number room = decided_fit id t.0 sheet state sound new same number room
   chosen_fit id (Slow t) sheet state sound new same number room = (
     with_sheet_sound script me.partition.0 id (putting script.topology me.rank.0 t.0 sheet) state sound
@@ -118,10 +118,10 @@ module _ (script : Script) (accepted : IsAccepted script) (in_quorum : Command �
   )
 
   gathered_fit : (id : CommandId) (sheet : Sheet) (state : ProcessState) → IsSound state → IsSheet sheet
-      → sheet.proposal ≡ (state.sheets id).proposal → Goes (gathered setting me id sheet state)
+      → sheet.proposal ≡ (state.sheets id).proposal → Goes (gathered quorum_rule me id sheet state)
   gathered_fit id sheet state sound new same =
       let choice : FastChoice = fast_choice script.topology (present sheet.acknowledged) in
-      cond_both (is_full script.topology sheet) (chosen setting me id choice sheet state) (with_sheet id sheet state, []) Goes
+      cond_both (is_full script.topology sheet) (chosen quorum_rule me id choice sheet state) (with_sheet id sheet state, []) Goes
       (λ full.
       let as_many : length (present sheet.acknowledged) ≡ fast_size script.topology = eqb-true _ _ full in
       chosen_fit id choice sheet state sound new same
@@ -132,17 +132,17 @@ module _ (script : Script) (accepted : IsAccepted script) (in_quorum : Command �
   -- the rows
 
   propose_ack_fit : (from : ActorName) (id : CommandId) (t : ℕ) (state : ProcessState) → IsSound state → IsNumber t
-      → Goes (on_propose_ack setting me from id t state)
+      → Goes (on_propose_ack quorum_rule me from id t state)
   propose_ack_fit from id t state sound number =
       let sheet : Sheet = acknowledged (rank_of from) t (state.sheets id) in
-      cond_both (can_acknowledge setting me.partition.0 me.rank.0 (rank_of from) (state.sheets id))
-      (gathered setting me id sheet state) (state, []) Goes
+      cond_both (can_acknowledge quorum_rule me.partition.0 me.rank.0 (rank_of from) (state.sheets id))
+      (gathered quorum_rule me id sheet state) (state, []) Goes
       (λ can. gathered_fit id sheet state sound
       (acknowledged_sound script me.partition.0 (rank_of from) t (state.sheets id) number (sound.sheets id)) refl)
       (λ cannot room. (sound, tt))
 
   commit_fit : (c : Command) (q t : ℕ) (state : ProcessState) → IsSound state → IsHere c → IsNumber t
-      → Goes (on_commit setting me c q t state)
+      → Goes (on_commit quorum_rule me c q t state)
   commit_fit c q t state sound ours number =
       let sheet : Sheet = kept c (state.sheets c.id) in
       cond_both (is_accessed script.topology.partitions c q) (learned script.topology me c.id q t sheet state) (state, []) Goes
@@ -175,7 +175,7 @@ module _ (script : Script) (accepted : IsAccepted script) (in_quorum : Command �
       omega (arith, some, same)
 
   voted_fit : (id : CommandId) (sheet : Sheet) (state : ProcessState) → IsSound state → IsSheet sheet
-      → sheet.proposal ≡ (state.sheets id).proposal → 1 ≤ sheet.putting_ballot → Goes (voted setting me id sheet state)
+      → sheet.proposal ≡ (state.sheets id).proposal → 1 ≤ sheet.putting_ballot → Goes (voted quorum_rule me id sheet state)
   voted_fit id sheet state sound new same put =
       cond_both (has_consensus script.topology sheet) (decided script.topology me id sheet.putting_stamp sheet state)
       (with_sheet id sheet state, []) Goes
@@ -183,10 +183,10 @@ module _ (script : Script) (accepted : IsAccepted script) (in_quorum : Command �
       (λ not_whole room. (with_sheet_sound script me.partition.0 id sheet state sound new same, tt))
 
   consensus_ack_fit : (from : ActorName) (id : CommandId) (b : ℕ) (state : ProcessState) → IsSound state
-      → Goes (on_consensus_ack setting me from id b state)
+      → Goes (on_consensus_ack quorum_rule me from id b state)
   consensus_ack_fit from id b state sound =
       let sheet : Sheet = with_vote (rank_of from) (state.sheets id) in
-      cond_both (can_vote me.partition.0 b (state.sheets id)) (voted setting me id sheet state) (state, []) Goes
+      cond_both (can_vote me.partition.0 b (state.sheets id)) (voted quorum_rule me id sheet state) (state, []) Goes
       (λ can. voted_fit id sheet state sound (with_vote_sound script me.partition.0 (rank_of from) (state.sheets id) (sound.sheets id)) refl
       (is_put b (state.sheets id) can))
       (λ cannot room. (sound, tt))
@@ -219,37 +219,37 @@ module _ (script : Script) (accepted : IsAccepted script) (in_quorum : Command �
       (and_parts (is_none sheet.proposal && (sheet.ballot == 0)) (is_none (stamp_of sheet me.partition.0)) fresh).0).0
 
   submitted_fit : (c : Command) (state : ProcessState) → IsSound state → IsHere c → is_none (state.sheets c.id).proposal ≡ true
-      → Goes (submitted setting me c (next_stamp 0 state) (state.sheets c.id) state)
+      → Goes (submitted quorum_rule me c (next_stamp 0 state) (state.sheets c.id) state)
   submitted_fit c state sound ours fresh room =
       let t : ℕ = next_stamp 0 state in
       let number : IsNumber t = stamp_number 0 state room in
       let sheet : Sheet = state.sheets c.id in
       let proposal : Sheet = with_proposal t Proposal (kept c sheet) in
-      let own : Sheet = acknowledged_own setting me.partition.0 me.rank.0 t proposal in
-      let can : Bool = can_acknowledge setting me.partition.0 me.rank.0 me.rank.0 proposal in
+      let own : Sheet = acknowledged_own quorum_rule me.partition.0 me.rank.0 t proposal in
+      let can : Bool = can_acknowledge quorum_rule me.partition.0 me.rank.0 me.rank.0 proposal in
       let new : IsSheet proposal = proposal_sound c t Proposal sheet ours number (sound.sheets c.id) in
       let own_sound : IsSheet own = cond_both can (acknowledged me.rank.0 t proposal) proposal IsSheet
       (λ b. acknowledged_sound script me.partition.0 me.rank.0 t proposal number new) (λ b. new) in
       let own_proposed : is_none own.proposal ≡ false = cond_both can (acknowledged me.rank.0 t proposal) proposal
       (λ (s : Sheet). is_none s.proposal ≡ false) (λ b. refl) (λ b. refl) in (
         proposing_sound script me.partition.0 c.id t own state sound room (omega arith) (id_ours c ours) fresh own_sound own_proposed,
-        each_append (IsFit script) (proposals setting me c t) (bumps script.topology me (command_or c sheet) t)
+        each_append (IsFit script) (proposals quorum_rule me c t) (bumps script.topology me (command_or c sheet) t)
             (proposals_fit script accepted in_quorum me here c t ours number)
             (bumps_fit script accepted in_quorum me here (command_or c sheet) t
             (command_or_here script me.partition.0 c sheet ours (sound.sheets c.id)) number),
       )
 
-  submit_fit : (c : Command) (state : ProcessState) → IsSound state → IsHere c → Goes (on_submit setting me c state)
+  submit_fit : (c : Command) (state : ProcessState) → IsSound state → IsHere c → Goes (on_submit quorum_rule me c state)
   submit_fit c state sound ours =
       let fresh : Bool = is_fresh me.partition.0 (state.sheets c.id) in
       cond_both ((c.home.0 == me.rank.0) && fresh)
-      (submitted setting me c (next_stamp 0 state) (state.sheets c.id) state) (state, []) Goes
+      (submitted quorum_rule me c (next_stamp 0 state) (state.sheets c.id) state) (state, []) Goes
       (λ t. submitted_fit c state sound ours (no_proposal c state (and_parts (c.home.0 == me.rank.0) fresh t).1))
       (λ f room. (sound, tt))
 
   proposed_fit : (from : ActorName) (c : Command) (floor : ℕ) (state : ProcessState) → IsSound state → IsProcessOf script from → IsHere c
       → is_none (state.sheets c.id).proposal ≡ true
-      → Goes (proposed setting me from c (next_stamp floor state) (state.sheets c.id) state)
+      → Goes (proposed quorum_rule me from c (next_stamp floor state) (state.sheets c.id) state)
   proposed_fit from c floor state sound is_process ours fresh room =
       let t : ℕ = next_stamp floor state in
       let number : IsNumber t = stamp_number floor state room in
@@ -265,10 +265,10 @@ module _ (script : Script) (accepted : IsAccepted script) (in_quorum : Command �
       )
 
   propose_fit : (from : ActorName) (c : Command) (floor : ℕ) (state : ProcessState) → IsSound state → IsProcessOf script from → IsHere c
-      → Goes (on_propose setting me from c floor state)
+      → Goes (on_propose quorum_rule me from c floor state)
   propose_fit from c floor state sound is_process ours =
       cond_both (is_fresh me.partition.0 (state.sheets c.id))
-      (proposed setting me from c (next_stamp floor state) (state.sheets c.id) state) (state, []) Goes
+      (proposed quorum_rule me from c (next_stamp floor state) (state.sheets c.id) state) (state, []) Goes
       (λ t. proposed_fit from c floor state sound is_process ours (no_proposal c state t))
       (λ f room. (sound, tt))
 
@@ -305,7 +305,7 @@ module _ (script : Script) (accepted : IsAccepted script) (in_quorum : Command �
 
   proposed_late_fit : (from : ActorName) (c : Command) (b : ℕ) (state : ProcessState) → IsSound state → IsProcessOf script from → IsHere c
       → IsNumber b → is_untouched (state.sheets c.id) ≡ true
-      → Goes (proposed_late setting me from c b (next_stamp 0 state) (state.sheets c.id) state)
+      → Goes (proposed_late quorum_rule me from c b (next_stamp 0 state) (state.sheets c.id) state)
   proposed_late_fit from c b state sound is_process ours ballot untouched room =
       let t : ℕ = next_stamp 0 state in
       let number : IsNumber t = stamp_number 0 state room in
@@ -335,38 +335,38 @@ module _ (script : Script) (accepted : IsAccepted script) (in_quorum : Command �
       )
 
   joined_fit : (from : ActorName) (c : Command) (b : ℕ) (state : ProcessState) → IsSound state → IsProcessOf script from → IsHere c
-      → IsNumber b → Goes (joined setting me from c b (state.sheets c.id) state)
+      → IsNumber b → Goes (joined quorum_rule me from c b (state.sheets c.id) state)
   joined_fit from c b state sound is_process ours ballot =
       let sheet : Sheet = state.sheets c.id in
-      cond_both (is_untouched sheet) (proposed_late setting me from c b (next_stamp 0 state) sheet state) (agreed me from c b sheet state) Goes
+      cond_both (is_untouched sheet) (proposed_late quorum_rule me from c b (next_stamp 0 state) sheet state) (agreed me from c b sheet state) Goes
       (proposed_late_fit from c b state sound is_process ours ballot)
       (agreed_fit from c b state sound is_process ours ballot)
 
   rec_fit_by : (from : ActorName) (c : Command) (b : ℕ) (o : Option ℕ) (state : ProcessState) → IsSound state → IsProcessOf script from → IsHere c
-      → IsNumber b → IfAny IsNumber o → Goes (on_rec_by setting me from c b o state)
+      → IsNumber b → IfAny IsNumber o → Goes (on_rec_by quorum_rule me from c b o state)
   rec_fit_by from c b (Some t) state sound is_process ours ballot number room =
       (sound, told_fit script accepted in_quorum me here from (state.sheets c.id).command t is_process (sound.sheets c.id).command number)
   rec_fit_by from c b None state sound is_process ours ballot number room =
       let sheet : Sheet = state.sheets c.id in
-      cond_both (nat_lt sheet.ballot b && nat_lt b LIMIT) (joined setting me from c b sheet state) (state, []) Goes
+      cond_both (nat_lt sheet.ballot b && nat_lt b LIMIT) (joined quorum_rule me from c b sheet state) (state, []) Goes
       (λ higher. joined_fit from c b state sound is_process ours ballot)
       (λ lower room. (sound, tt)) room
 
   rec_fit : (from : ActorName) (c : Command) (b : ℕ) (state : ProcessState) → IsSound state → IsProcessOf script from → IsHere c
-      → IsNumber b → Goes (on_rec setting me from c b state)
+      → IsNumber b → Goes (on_rec quorum_rule me from c b state)
   rec_fit from c b state sound is_process ours ballot =
       rec_fit_by from c b (stamp_of (state.sheets c.id) me.partition.0) state sound is_process ours ballot
       (kept_fit IsNumber (state.sheets c.id).known me.partition.0 (sound.sheets c.id).known)
 
   put_recovered_fit : (id : CommandId) (b : ℕ) (o : Option Command) (sheet : Sheet) (state : ProcessState) → IsSound state → IsSheet sheet
       → sheet.proposal ≡ (state.sheets id).proposal → IsNumber b → IfAny IsHere o → is_recovered script.topology sheet ≡ true
-      → Goes (put_recovered script.topology me id b o sheet state)
+      → Goes (put_recovered quorum_rule me id b o sheet state)
   put_recovered_fit id b None sheet state sound new same ballot ours full room =
       (with_sheet_sound script me.partition.0 id sheet state sound new same, tt)
   put_recovered_fit id b (Some c) sheet state sound new same ballot ours full room =
-      let t : ℕ = recovery_choice script.topology c.home.0 (present sheet.answers) in
+      let t : ℕ = recovery_choice (in_quorum c) c.home.0 (present sheet.answers) in
       let home = is_home c ours in
-      let number : IsNumber t = recovery_number script.topology c.home.0 sheet.answers accepted.shape home.0 home.1 new.answers
+      let number : IsNumber t = recovery_number quorum_rule sized c sheet.answers accepted.shape home.0 home.1 new.answers
       (eqb-true (length (present sheet.answers)) (recovery_size script.topology) full) in (
         with_sheet_sound script me.partition.0 id (putting script.topology b t sheet) state sound
             (putting_sound script me.partition.0 b t sheet number new) same,
@@ -374,19 +374,19 @@ module _ (script : Script) (accepted : IsAccepted script) (in_quorum : Command �
       )
 
   recovered_fit : (id : CommandId) (b : ℕ) (sheet : Sheet) (state : ProcessState) → IsSound state → IsSheet sheet
-      → sheet.proposal ≡ (state.sheets id).proposal → IsNumber b → Goes (recovered script.topology me id b sheet state)
+      → sheet.proposal ≡ (state.sheets id).proposal → IsNumber b → Goes (recovered quorum_rule me id b sheet state)
   recovered_fit id b sheet state sound new same ballot =
-      cond_both (is_recovered script.topology sheet) (put_recovered script.topology me id b sheet.command sheet state) (with_sheet id sheet state, [])
+      cond_both (is_recovered script.topology sheet) (put_recovered quorum_rule me id b sheet.command sheet state) (with_sheet id sheet state, [])
       Goes
       (put_recovered_fit id b sheet.command sheet state sound new same ballot new.command)
       (λ few room. (with_sheet_sound script me.partition.0 id sheet state sound new same, tt))
 
   rec_ack_fit : (from : ActorName) (id : CommandId) (t : ℕ) (made : Made) (a b : ℕ) (state : ProcessState) → IsSound state → IsNumber t → IsNumber b
-      → Goes (on_rec_ack setting me from id t made a b state)
+      → Goes (on_rec_ack quorum_rule me from id t made a b state)
   rec_ack_fit from id t made a b state sound number ballot =
       let old : Sheet = state.sheets id in
       let new : RecoveryAnswer = record { rank = record { 0 = rank_of from }; stamp = record { 0 = t }; made = made; accepted = a } in
-      cond_both (can_answer me.partition.0 b (rank_of from) old) (recovered script.topology me id b (with_answer new old) state) (state, []) Goes
+      cond_both (can_answer me.partition.0 b (rank_of from) old) (recovered quorum_rule me id b (with_answer new old) state) (state, []) Goes
       (λ can. recovered_fit id b (with_answer new old) state sound
       (with_answer_sound script me.partition.0 new old number (sound.sheets id)) refl ballot)
       (λ cannot room. (sound, tt))
@@ -438,7 +438,7 @@ module _ (script : Script) (accepted : IsAccepted script) (in_quorum : Command �
   commit_brought c q ours at = brought c ours (and_parts _ (is_between q script.topology.partitions) at).0
 
   body_fit : (from to : ActorName) (body : Body) (state : ProcessState) → IsSound state → IsBody from to body → IsBodyOf script body
-      → is_name_of script.topology from ≡ true → is_body_at script.topology me.partition.0 body ≡ true → Goes (on_body setting me from body state)
+      → is_name_of script.topology from ≡ true → is_body_at script.topology me.partition.0 body ≡ true → Goes (on_body quorum_rule me from body state)
   body_fit from to (MSubmit c) state sound range ours named at room = submit_fit c state sound (brought c ours at) room
   body_fit from to (MPropose c floor) state sound range ours named at room = propose_fit from c floor.0 state sound (range.0, known_process script from range.0 named) (brought c ours at) room
   body_fit from to (MPayload c) state sound range ours named at room = payload_fit c state sound (brought c ours at) room
@@ -453,12 +453,12 @@ module _ (script : Script) (accepted : IsAccepted script) (in_quorum : Command �
 
   -- what it keeps and sends
   pub process_fit : (act : Act) (state : ProcessState) → IsFitAct script act → IsSound state
-      → IsSettled (react setting me act state)
+      → IsSettled (react quorum_rule me act state)
   process_fit (Took m) state fit sound =
       let to_me : Bool = same_name m.to (Process me) in
       let named : Bool = is_name_of script.topology m.from in
       let at : Bool = is_body_at script.topology me.partition.0 m.body in
-      let moved : Moved = on_body setting me m.from m.body state in
+      let moved : Moved = on_body quorum_rule me m.from m.body state in
       cond_both (to_me && named && at) (with_room state moved) (state, []) IsSettled
       (λ t.
       let both : ((to_me && named) ≡ true) × (at ≡ true) = and_parts (to_me && named) at t in
@@ -468,7 +468,7 @@ module _ (script : Script) (accepted : IsAccepted script) (in_quorum : Command �
   process_fit (Did (Recover id)) state fit sound = recover_fit id state sound
   process_fit (Did _) state fit sound = (sound, tt)
 
-  pub process_sound : (acts : List Act) → Each (IsFitAct script) acts → IsSound (state_after setting me acts)
+  pub process_sound : (acts : List Act) → Each (IsFitAct script) acts → IsSound (state_after quorum_rule me acts)
   process_sound [] fits = start_sound script me.partition.0
   process_sound (act ∷ before) fits =
-      (process_fit act (state_after setting me before) fits.0 (process_sound before fits.1)).0
+      (process_fit act (state_after quorum_rule me before) fits.0 (process_sound before fits.1)).0

@@ -23,7 +23,7 @@ use Rattle.tp_rules.proofs.FitPromises.{untold_attached}
 use Rattle.tp_rules.proofs.Selections.{IfAny, each_filter, each_image, each_spread, each_up_to, filter_shorter}
 use Rattle.tp_rules.specs.Addresses.{accessed, executors_of, is_site_of, message, others_accessed, processes_of, site}
 use Rattle.tp_rules.specs.Process.{ProcessState, announced, asked, bumps, commits, proposals, put_to_vote, told, untold}
-use Rattle.tp_rules.specs.Sheet.{Setting}
+use Rattle.tp_rules.specs.Sheet.{QuorumRule}
 use Rattle.tp_script.specs.Accepted.{IsAccepted}
 use Rattle.tp_script.specs.declared.script.Script.{Script}
 use Rattle.tp_topology.specs.Counting.{up_to}
@@ -32,8 +32,8 @@ use Rattle.tp_wire.specs.declared.message.Body.{Body}
 use Rattle.tp_wire.specs.declared.message.Body.TheVariants.{MPropose, MPayload, MBump, MConsensus, MCommit, MRec, MPromises}
 
 -- a script's shape, and any fast quorums
-abbrev pub setting_of : Script → (Command → ℕ → Bool) → Setting
-setting_of script in_quorum = record { shape = script.topology; in_quorum = in_quorum }
+abbrev pub quorum_rule_of : Script → (Command → ℕ → Bool) → QuorumRule
+quorum_rule_of script in_quorum = record { shape = script.topology; in_quorum = in_quorum }
 
 module _ (script : Script) (accepted : IsAccepted script) (in_quorum : Command → ℕ → Bool) (me : Site)
     (here : is_site_of script.topology me ≡ true) where
@@ -70,7 +70,7 @@ module _ (script : Script) (accepted : IsAccepted script) (in_quorum : Command �
       others (each_other_accessed script.topology c me.partition.0)))
 
   pub proposals_fit : (c : Command) (t : ℕ) → IsCommandHere script me.partition.0 c → IsNumber t
-      → Each (IsFit script) (proposals (setting_of script in_quorum) me c t)
+      → Each (IsFit script) (proposals (quorum_rule_of script in_quorum) me c t)
   unfolding proposals
   proposals_fit c t ours number =
       let range : IsCommand c = is_command c ours in

@@ -25,7 +25,7 @@ use Rattle.tp_rules.specs.Session as session
 use Rattle.tp_rules.specs.Journal.{identity_in, client_of, act_of, acts}
 use Rattle.tp_rules.specs.Rules.{outputs_of}
 use Rattle.tp_rules.specs.Runs.{outputs_by, outputs_in, FollowsRules}
-use Rattle.tp_rules.specs.Sheet.{Sheet, Setting, ring_setting, stamp_of, is_fresh, command_or, kept, can_acknowledge, acknowledged, is_full, can_accept, can_vote, with_vote, has_consensus, is_untouched, can_answer, with_answer, is_recovered, with_stamp, final_stamp}
+use Rattle.tp_rules.specs.Sheet.{Sheet, QuorumRule, ring_rule, stamp_of, is_fresh, command_or, kept, can_acknowledge, acknowledged, is_full, can_accept, can_vote, with_vote, has_consensus, is_untouched, can_answer, with_answer, is_recovered, with_stamp, final_stamp}
 use Rattle.tp_rules.specs.Tables.{nth}
 use Rattle.tp_rules.specs.declared.event.Entry.{Entry}
 use Rattle.tp_rules.specs.declared.event.Inner.TheVariants.{Submit, Recover, Announce, Declare, Execute, Crash}
@@ -55,7 +55,7 @@ processes_length shape p = map_length (λ rank. Process (site p rank)) (up_to sh
 executors_length : (shape : Shape) (p : ℕ) → length (executors_of shape p) ≡ shape.replicas
 executors_length shape p = map_length (λ rank. Executor (site p rank)) (up_to shape.replicas) ∙ length-up_to shape.replicas
 
-module _ (s : Setting) (good : IsShape s.shape) (me : Site) where
+module _ (s : QuorumRule) (good : IsShape s.shape) (me : Site) where
   abbrev IsShort : process.Moved → Type 0
   IsShort moved = length moved.1 ≤ 63
 
@@ -181,17 +181,17 @@ module _ (s : Setting) (good : IsShape s.shape) (me : Site) where
       (λ e. joined_short from c b sheet state) (λ e. omega arith)
 
   put_recovered_short : (id : CommandId) (b : ℕ) (o : Option Command) (sheet : Sheet) (state : process.ProcessState) →
-      IsShort (process.put_recovered s.shape me id b o sheet state)
+      IsShort (process.put_recovered s me id b o sheet state)
   put_recovered_short id b None sheet state = omega arith
-  put_recovered_short id b (Some c) sheet state = omega (arith, put_short b (recovery_choice s.shape c.home.0 (present sheet.answers)) (Some c))
+  put_recovered_short id b (Some c) sheet state = omega (arith, put_short b (recovery_choice (s.in_quorum c) c.home.0 (present sheet.answers)) (Some c))
 
   rec_ack_short : (from : ActorName) (id : CommandId) (t : ℕ) (made : Made) (a b : ℕ) (state : process.ProcessState) →
       IsShort (process.on_rec_ack s me from id t made a b state)
   rec_ack_short from id t made a b state =
       let new : RecoveryAnswer = record { rank = record { 0 = rank_of from }; stamp = record { 0 = t }; made = made; accepted = a } in
       let sheet = with_answer new (state.sheets id) in
-      cond_both (can_answer me.partition.0 b (rank_of from) (state.sheets id)) (process.recovered s.shape me id b sheet state) (state, []) IsShort
-      (λ e. cond_both (is_recovered s.shape sheet) (process.put_recovered s.shape me id b sheet.command sheet state) (process.with_sheet id sheet state, []) IsShort
+      cond_both (can_answer me.partition.0 b (rank_of from) (state.sheets id)) (process.recovered s me id b sheet state) (state, []) IsShort
+      (λ e. cond_both (is_recovered s.shape sheet) (process.put_recovered s me id b sheet.command sheet state) (process.with_sheet id sheet state, []) IsShort
       (λ all. put_recovered_short id b sheet.command sheet state) (λ all. omega arith))
       (λ e. omega arith)
 
@@ -307,7 +307,7 @@ session_short shape good client (Did Crash) state = omega arith
 act_short : (script : Script) → IsShape script.topology → (actor : ActorName) (before : List Act) (act : Act) →
     length (outputs_of (identity_in script actor) before act) ≤ 63
 act_short script good (Process s) before act =
-    process_short (ring_setting script.topology) good s act (process.state_after (ring_setting script.topology) s before)
+    process_short (ring_rule script.topology) good s act (process.state_after (ring_rule script.topology) s before)
 act_short script good (Executor s) before act = executor_short script.topology good s act (executor.state_after script.topology s before)
 act_short script good (Session s) before act =
     session_short script.topology good (client_of script s) act (session.state_after script.topology (client_of script s) before)

@@ -9,6 +9,7 @@ use Rattle.tp_base.specs.declared.names.ActorName.TheVariants.{Process, Executor
 use Rattle.tp_rules.proofs.EachSent.{HandsOn, entry_passes, history_passes, sent_passes}
 use Rattle.tp_rules.proofs.Fit.{IsFit}
 use Rattle.tp_rules.proofs.FitExecutors.{executor_fit, executor_sound}
+use Rattle.tp_rules.proofs.FitChoices.{HasFastSize, ring_has_fast_size}
 use Rattle.tp_rules.proofs.FitRules.{process_fit, process_sound}
 use Rattle.tp_rules.proofs.FitSessions.{session_fit}
 use Rattle.tp_rules.proofs.Selections.{each_turned}
@@ -17,7 +18,7 @@ use Rattle.tp_rules.specs.Journal.{client_of, is_known, sent}
 use Rattle.tp_rules.specs.Process as process
 use Rattle.tp_rules.specs.Session as session
 use Rattle.tp_rules.specs.Runs.{AreInRange, FollowsRules, IsFreeHistory, IsFreeRun}
-use Rattle.tp_rules.specs.Sheet.{Setting, ring_setting}
+use Rattle.tp_rules.specs.Sheet.{QuorumRule, ring_rule}
 use Rattle.tp_rules.specs.declared.event.Entry.{Entry}
 use Rattle.tp_rules.specs.declared.event.Parcel.{Parcel}
 use Rattle.tp_script.specs.Accepted.{IsAccepted}
@@ -27,9 +28,10 @@ use Rattle.tp_wire.specs.Ranges.{IsInRange}
 module _ (script : Script) (accepted : IsAccepted script) where
   pub fit_handed_on : HandsOn script (IsFit script)
   fit_handed_on (Process me) before act known took takes =
-      let setting : Setting = ring_setting script.topology in
-      (process_fit script accepted setting.in_quorum me known act (process.state_after setting me before) takes
-      (process_sound script accepted setting.in_quorum me known before took)).1
+      let quorum_rule : QuorumRule = ring_rule script.topology in
+      let sized : HasFastSize quorum_rule = ring_has_fast_size script.topology accepted.shape in
+      (process_fit script accepted quorum_rule.in_quorum sized me known act (process.state_after quorum_rule me before) takes
+      (process_sound script accepted quorum_rule.in_quorum sized me known before took)).1
   fit_handed_on (Executor me) before act known took takes =
       (executor_fit script accepted me known act (executor.state_after script.topology me before) takes
       (executor_sound script accepted me known before took)).1

@@ -17,7 +17,7 @@ use Rattle.tp_rules.specs.Session as session
 use Rattle.tp_rules.specs.Journal.{identity_in, client_of}
 use Rattle.tp_rules.specs.Left.{place_of}
 use Rattle.tp_rules.specs.Rules.{outputs_of}
-use Rattle.tp_rules.specs.Sheet.{Setting, ring_setting}
+use Rattle.tp_rules.specs.Sheet.{QuorumRule, ring_rule}
 use Rattle.tp_rules.specs.Tables.{nth}
 use Rattle.tp_script.specs.declared.script.Script.{Script}
 use Rattle.tp_topology.specs.Shape.{Shape}
@@ -30,7 +30,7 @@ use Rattle.tp_rules.proofs.SendsOfProcess.{EachSent, each_to, on_submit_sends, o
 abbrev pub IsAfter : ℕ → Message → Type 0
 IsAfter k m = k < place_of m.body
 
-row_sends_later : (s : Setting) (me : Site) (from : ActorName) (body : Body) (state : process.ProcessState) →
+row_sends_later : (s : QuorumRule) (me : Site) (from : ActorName) (body : Body) (state : process.ProcessState) →
     EachSent (IsAfter (place_of body)) (process.on_body s me from body state)
 row_sends_later s me from (MSubmit c) state =
     on_submit_sends (IsAfter 3) me s c state (λ to t. omega arith) (λ to. omega arith) (λ to id t. omega arith)
@@ -52,7 +52,7 @@ row_sends_later s me from (MCommitted c t) state = tt
 row_sends_later s me from (MStable id) state = tt
 row_sends_later s me from (MResult id q answers) state = tt
 
-pub process_sends_later : (s : Setting) (me : Site) (m : Message) (state : process.ProcessState) →
+pub process_sends_later : (s : QuorumRule) (me : Site) (m : Message) (state : process.ProcessState) →
     EachSent (IsAfter (place_of m.body)) (process.react s me (Took m) state)
 process_sends_later s me m state =
     cond_both (same_name m.to (Process me) && is_name_of s.shape m.from && is_body_at s.shape me.partition.0 m.body)
@@ -148,7 +148,7 @@ submissions_are_later shape client n state = of_command (nth client.commands n)
 pub sends_later : (script : Script) (actor : ActorName) (before : List Act) (m : Message) →
     Each (IsAfter (place_of m.body)) (outputs_of (identity_in script actor) before (Took m))
 sends_later script (Process s) before m =
-    process_sends_later (ring_setting script.topology) s m (process.state_after (ring_setting script.topology) s before)
+    process_sends_later (ring_rule script.topology) s m (process.state_after (ring_rule script.topology) s before)
 sends_later script (Executor s) before m =
     subst (Each (IsAfter (place_of m.body))) (sym (executor_silent script.topology s m (executor.state_after script.topology s before))) tt
 sends_later script (Session s) before m =

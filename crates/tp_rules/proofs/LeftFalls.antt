@@ -14,7 +14,7 @@ use Rattle.tp_rules.specs.Left.{place_of, undelivered, unannounced, undeclared, 
 use Rattle.tp_rules.specs.Plan.{is_planned, due}
 use Rattle.tp_rules.specs.Rules.{outputs_of}
 use Rattle.tp_rules.specs.Runs.{IsFor, MayHappen, outputs_by, FollowsRules, FollowsFate, IsLegal, IsHistory}
-use Rattle.tp_rules.specs.Sheet.{ring_setting}
+use Rattle.tp_rules.specs.Sheet.{ring_rule}
 use Rattle.tp_rules.specs.declared.event.Entry.{Entry}
 use Rattle.tp_rules.specs.declared.event.Event.{Event}
 use Rattle.tp_rules.specs.declared.event.Event.TheVariants.{Deliver, Dropped, Inner as OfItself}
@@ -240,7 +240,7 @@ module _ (script : Script) (accepted : IsAccepted script) (older : List Entry) (
       (λ high act same. let wrong : None ≡ Some act = sym nothing ∙ same in absurd cc)
 
   announces_later : (actor : ActorName) (before : List Act) → Each (IsAfter 11) (outputs_of (identity_in script actor) before (Did Announce))
-  announces_later (Process s) before = announcement_is_later script.topology s (process.state_after (ring_setting script.topology) s before)
+  announces_later (Process s) before = announcement_is_later script.topology s (process.state_after (ring_rule script.topology) s before)
   announces_later (Executor s) before = tt
   announces_later (Session s) before = tt
 

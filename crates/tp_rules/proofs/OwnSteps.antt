@@ -14,7 +14,7 @@ use Rattle.tp_rules.specs.Process as process
 use Rattle.tp_rules.specs.Session as session
 use Rattle.tp_rules.specs.Journal.{identity_in, client_of, commands_of, acts}
 use Rattle.tp_rules.specs.Rules.{MayMake}
-use Rattle.tp_rules.specs.Sheet.{ring_setting}
+use Rattle.tp_rules.specs.Sheet.{ring_rule}
 use Rattle.tp_rules.specs.declared.event.Entry.{Entry}
 use Rattle.tp_rules.specs.declared.event.Inner.{Inner}
 use Rattle.tp_rules.specs.declared.event.Inner.TheVariants.{Submit, Announce, Declare, Execute}
@@ -81,7 +81,7 @@ pub submit_may : (script : Script) (older : List Entry) (actor : ActorName) (n :
     × (n ≡ (session.state_after script.topology (client_of script s) (acts older (Session s))).submitted + 1)
     × ((session.state_after script.topology (client_of script s) (acts older (Session s))).submitted < length (commands_of script s))
 submit_may script older (Process s) n may = let parts =
-    process_may (process.state_after (ring_setting script.topology) s (acts older (Process s))) (Submit n) may in absurd (let wrong = parts.0 in cc)
+    process_may (process.state_after (ring_rule script.topology) s (acts older (Process s))) (Submit n) may in absurd (let wrong = parts.0 in cc)
 submit_may script older (Executor s) n may = absurd
     (executor_may_not script.topology s (executor.state_after script.topology s (acts older (Executor s))) (Submit n) may
     (λ id wrong. cc) (λ id wrong. cc))
@@ -94,9 +94,9 @@ submit_may script older (Session s) n may =
 -- who announces
 pub announce_may : (script : Script) (older : List Entry) (actor : ActorName) → MayMake (identity_in script actor) (acts older actor) Announce →
     (s : Site) × (actor ≡ Process s)
-    × (let state = process.state_after (ring_setting script.topology) s (acts older (Process s)) in nat_lt state.told state.clock ≡ true)
+    × (let state = process.state_after (ring_rule script.topology) s (acts older (Process s)) in nat_lt state.told state.clock ≡ true)
 announce_may script older (Process s) may =
-    (s, refl, (process_may (process.state_after (ring_setting script.topology) s (acts older (Process s))) Announce may).1)
+    (s, refl, (process_may (process.state_after (ring_rule script.topology) s (acts older (Process s))) Announce may).1)
 announce_may script older (Executor s) may = absurd
     (executor_may_not script.topology s (executor.state_after script.topology s (acts older (Executor s))) Announce may
     (λ id wrong. cc) (λ id wrong. cc))
@@ -111,7 +111,7 @@ pub execute_may : (script : Script) (older : List Entry) (actor : ActorName) (id
     (s : Site) × (actor ≡ Executor s) × (c : executor.Committed)
     × (executor.least (executor.waiting (executor.state_after script.topology s (acts older (Executor s)))) ≡ Some c) × (id ≡ c.key.id)
 execute_may script older (Process s) id may = let parts =
-    process_may (process.state_after (ring_setting script.topology) s (acts older (Process s))) (Execute id) may in absurd (let wrong = parts.0 in cc)
+    process_may (process.state_after (ring_rule script.topology) s (acts older (Process s))) (Execute id) may in absurd (let wrong = parts.0 in cc)
 execute_may script older (Executor s) id may =
     let parts = executor_may script.topology s (executor.state_after script.topology s (acts older (Executor s))) (Execute id) may in
     elim parts.2 [
@@ -130,7 +130,7 @@ pub declare_may : (script : Script) (older : List Entry) (actor : ActorName) (id
     × (executor.least (executor.waiting (executor.state_after script.topology s (acts older (Executor s)))) ≡ Some c)
     × (executor.may_declare script.topology s (executor.state_after script.topology s (acts older (Executor s))) c ≡ true)
 declare_may script older (Process s) id may = let parts =
-    process_may (process.state_after (ring_setting script.topology) s (acts older (Process s))) (Declare id) may in absurd (let wrong = parts.0 in cc)
+    process_may (process.state_after (ring_rule script.topology) s (acts older (Process s))) (Declare id) may in absurd (let wrong = parts.0 in cc)
 declare_may script older (Executor s) id may =
     let parts = executor_may script.topology s (executor.state_after script.topology s (acts older (Executor s))) (Declare id) may in
     elim parts.2 [

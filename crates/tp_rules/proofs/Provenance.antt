@@ -17,7 +17,7 @@ use Rattle.tp_rules.specs.Session as session
 use Rattle.tp_rules.specs.Journal.{identity_in, client_of, output_at, act_of, with_act, acts, sent, numbered}
 use Rattle.tp_rules.specs.Rules.{outputs_of}
 use Rattle.tp_rules.specs.Runs.{outputs_by, IsFreeHistory}
-use Rattle.tp_rules.specs.Sheet.{ring_setting}
+use Rattle.tp_rules.specs.Sheet.{ring_rule}
 use Rattle.tp_rules.specs.declared.event.Entry.{Entry}
 use Rattle.tp_rules.specs.declared.event.Event.{Event}
 use Rattle.tp_rules.specs.declared.event.Event.TheVariants.{Deliver, Dropped, Inner as OfItself}
@@ -79,8 +79,8 @@ Passes script m = Carries (IsOf script) m.body
 outputs_pass : (script : Script) (actor : ActorName) (before : List Act) (act : Act) → Each (Takes (IsOf script)) before → Takes (IsOf script) act →
     Each (Passes script) (outputs_of (identity_in script actor) before act)
 outputs_pass script (Process s) before act h p =
-    let setting = ring_setting script.topology in
-    process_sends_only (IsOf script) setting s act (process.state_after setting s before) (process_keeps_only (IsOf script) setting s before h) p
+    let quorum_rule = ring_rule script.topology in
+    process_sends_only (IsOf script) quorum_rule s act (process.state_after quorum_rule s before) (process_keeps_only (IsOf script) quorum_rule s before h) p
 outputs_pass script (Executor s) before act h p =
     executor_sends_only (IsOf script) script.topology s act (executor.state_after script.topology s before)
 outputs_pass script (Session s) before act h p =
@@ -104,9 +104,9 @@ sent_provenance script (e ∷ older) h =
 
 -- each command that a process keeps, under its own identifier
 pub kept_provenance : (script : Script) (older : List Entry) → IsFreeHistory script older → (s : Site) →
-    KeepsOnly (IsOf script) (process.state_after (ring_setting script.topology) s (acts older (Process s)))
+    KeepsOnly (IsOf script) (process.state_after (ring_rule script.topology) s (acts older (Process s)))
 kept_provenance script older h s =
-    process_keeps_only (IsOf script) (ring_setting script.topology) s (acts older (Process s))
+    process_keeps_only (IsOf script) (ring_rule script.topology) s (acts older (Process s))
     (acts_pass script older (Process s) (sent_provenance script older h))
 
 -- each command that an executor has committed

@@ -22,7 +22,7 @@ use Rattle.tp_quorum.specs.declared.choice.FastChoice.{FastChoice}
 use Rattle.tp_quorum.specs.declared.choice.FastChoice.TheVariants.{Fast, Slow}
 use Rattle.tp_rules.specs.Addresses.{message, to_each, site, rank_of}
 use Rattle.tp_rules.specs.Process.{ProcessState, Moved, bumps, finished, learned, commits, decided, put_to_vote, proposals, submitted, on_submit, proposed, on_propose, on_payload, chosen, gathered, on_propose_ack, accepted, on_consensus, voted, on_consensus_ack, told, proposed_late, agreed, joined, on_rec_by, on_rec, put_recovered, recovered, on_rec_ack, asked, recovering, has_next, on_recover, on_commit, announced, on_announce, untold, with_room, LIMIT, next_stamp, with_sheet}
-use Rattle.tp_rules.specs.Sheet.{Sheet, Setting, stamp_of, is_fresh, command_or, kept, can_acknowledge, acknowledged, is_full, can_accept, can_vote, with_vote, has_consensus, made_of, stamp_told, is_untouched, with_ballot, with_proposal, can_answer, with_answer, is_recovered, with_stamp, final_stamp}
+use Rattle.tp_rules.specs.Sheet.{Sheet, QuorumRule, stamp_of, is_fresh, command_or, kept, can_acknowledge, acknowledged, is_full, can_accept, can_vote, with_vote, has_consensus, made_of, stamp_told, is_untouched, with_ballot, with_proposal, can_answer, with_answer, is_recovered, with_stamp, final_stamp}
 use Rattle.tp_topology.specs.Ballots.{next_ballot}
 use Rattle.tp_topology.specs.Shape.{Shape}
 use Rattle.tp_wire.specs.declared.message.Body.{Body}
@@ -46,7 +46,7 @@ module _ (M : Message → Type 0) (me : Site) where
   unfolding bumps
   bumps_send shape c t h = each_to M (Process me) _ (MBump c.id (stamp t)) h
 
-  pub proposals_send : (s : Setting) (c : Command) (t : ℕ) →
+  pub proposals_send : (s : QuorumRule) (c : Command) (t : ℕ) →
       ((to : ActorName) → M (message (Process me) to (MPropose c (stamp t)))) → ((to : ActorName) → M (message (Process me) to (MPayload c))) →
       Each M (proposals s me c t)
   unfolding proposals
@@ -89,7 +89,7 @@ module _ (M : Message → Type 0) (me : Site) where
       each_append M (commits shape me sheet.command t) (learned shape me id me.partition.0 t sheet state).1
       (commits_send shape sheet.command t (λ c to e. h c to t e)) (learned_sends shape id me.partition.0 t sheet state k)
 
-  pub on_submit_sends : (s : Setting) (c : Command) (state : ProcessState) →
+  pub on_submit_sends : (s : QuorumRule) (c : Command) (state : ProcessState) →
       ((to : ActorName) (t : ℕ) → M (message (Process me) to (MPropose c (stamp t)))) →
       ((to : ActorName) → M (message (Process me) to (MPayload c))) →
       ((to : ActorName) (id : CommandId) (t : ℕ) → M (message (Process me) to (MBump id (stamp t)))) →
@@ -102,7 +102,7 @@ module _ (M : Message → Type 0) (me : Site) where
       (proposals_send s c t (λ to. h to t) k) (bumps_send s.shape (command_or c sheet) t (λ to. l to (command_or c sheet).id t)))
       (λ e. tt)
 
-  pub on_propose_sends : (s : Setting) (from : ActorName) (c : Command) (floor : ℕ) (state : ProcessState) →
+  pub on_propose_sends : (s : QuorumRule) (from : ActorName) (c : Command) (floor : ℕ) (state : ProcessState) →
       ((t : ℕ) → M (message (Process me) from (MProposeAck c.id (stamp t)))) →
       ((to : ActorName) (id : CommandId) (t : ℕ) → M (message (Process me) to (MBump id (stamp t)))) →
       EachSent M (on_propose s me from c floor state)
@@ -116,7 +116,7 @@ module _ (M : Message → Type 0) (me : Site) where
   pub on_payload_sends : (c : Command) (state : ProcessState) → EachSent M (on_payload c state)
   on_payload_sends c state = tt
 
-  pub chosen_sends : (s : Setting) (id : CommandId) (choice : FastChoice) (sheet : Sheet) (state : ProcessState) →
+  pub chosen_sends : (s : QuorumRule) (id : CommandId) (choice : FastChoice) (sheet : Sheet) (state : ProcessState) →
       ((c : Command) (to : ActorName) (t : ℕ) → sheet.command ≡ Some c → M (message (Process me) to (MCommit c me.partition (stamp t)))) →
       ((c : Command) (t : ℕ) → sheet.command ≡ Some c → M (message (Process me) (Executor me) (MCommitted c (stamp t)))) →
       ((c : Command) (to : ActorName) (t b : ℕ) → sheet.command ≡ Some c → M (message (Process me) to (MConsensus c (stamp t) b))) →
@@ -124,7 +124,7 @@ module _ (M : Message → Type 0) (me : Site) where
   chosen_sends s id (Fast t) sheet state h k l = decided_sends s.shape id t.0 sheet state h k
   chosen_sends s id (Slow t) sheet state h k l = put_to_vote_sends s.shape me.rank.0 t.0 sheet.command (λ c to e. l c to t.0 me.rank.0 e)
 
-  pub gathered_sends : (s : Setting) (id : CommandId) (sheet : Sheet) (state : ProcessState) →
+  pub gathered_sends : (s : QuorumRule) (id : CommandId) (sheet : Sheet) (state : ProcessState) →
       ((c : Command) (to : ActorName) (t : ℕ) → sheet.command ≡ Some c → M (message (Process me) to (MCommit c me.partition (stamp t)))) →
       ((c : Command) (t : ℕ) → sheet.command ≡ Some c → M (message (Process me) (Executor me) (MCommitted c (stamp t)))) →
       ((c : Command) (to : ActorName) (t b : ℕ) → sheet.command ≡ Some c → M (message (Process me) to (MConsensus c (stamp t) b))) →
@@ -134,7 +134,7 @@ module _ (M : Message → Type 0) (me : Site) where
       cond_both (is_full s.shape sheet) (chosen s me id choice sheet state) (with_sheet id sheet state, []) (EachSent M)
       (λ e. chosen_sends s id choice sheet state h k l) (λ e. tt)
 
-  pub on_propose_ack_sends : (s : Setting) (from : ActorName) (id : CommandId) (t : ℕ) (state : ProcessState) →
+  pub on_propose_ack_sends : (s : QuorumRule) (from : ActorName) (id : CommandId) (t : ℕ) (state : ProcessState) →
       ((c : Command) (to : ActorName) (t : ℕ) → (state.sheets id).command ≡ Some c → M (message (Process me) to (MCommit c me.partition (stamp t)))) →
       ((c : Command) (t : ℕ) → (state.sheets id).command ≡ Some c → M (message (Process me) (Executor me) (MCommitted c (stamp t)))) →
       ((c : Command) (to : ActorName) (t b : ℕ) → (state.sheets id).command ≡ Some c → M (message (Process me) to (MConsensus c (stamp t) b))) →
@@ -152,7 +152,7 @@ module _ (M : Message → Type 0) (me : Site) where
       cond_both (can_accept me.partition.0 b sheet && nat_lt b LIMIT) (accepted me from c t b sheet state) (state, []) (EachSent M)
       (λ e. (h, tt)) (λ e. tt)
 
-  pub voted_sends : (s : Setting) (id : CommandId) (sheet : Sheet) (state : ProcessState) →
+  pub voted_sends : (s : QuorumRule) (id : CommandId) (sheet : Sheet) (state : ProcessState) →
       ((c : Command) (to : ActorName) (t : ℕ) → sheet.command ≡ Some c → M (message (Process me) to (MCommit c me.partition (stamp t)))) →
       ((c : Command) (t : ℕ) → sheet.command ≡ Some c → M (message (Process me) (Executor me) (MCommitted c (stamp t)))) →
       EachSent M (voted s me id sheet state)
@@ -160,7 +160,7 @@ module _ (M : Message → Type 0) (me : Site) where
       cond_both (has_consensus s.shape sheet) (decided s.shape me id sheet.putting_stamp sheet state) (with_sheet id sheet state, []) (EachSent M)
       (λ e. decided_sends s.shape id sheet.putting_stamp sheet state h k) (λ e. tt)
 
-  pub on_consensus_ack_sends : (s : Setting) (from : ActorName) (id : CommandId) (b : ℕ) (state : ProcessState) →
+  pub on_consensus_ack_sends : (s : QuorumRule) (from : ActorName) (id : CommandId) (b : ℕ) (state : ProcessState) →
       ((c : Command) (to : ActorName) (t : ℕ) → (state.sheets id).command ≡ Some c → M (message (Process me) to (MCommit c me.partition (stamp t)))) →
       ((c : Command) (t : ℕ) → (state.sheets id).command ≡ Some c → M (message (Process me) (Executor me) (MCommitted c (stamp t)))) →
       EachSent M (on_consensus_ack s me from id b state)
@@ -169,7 +169,7 @@ module _ (M : Message → Type 0) (me : Site) where
       cond_both (can_vote me.partition.0 b (state.sheets id)) (voted s me id sheet state) (state, []) (EachSent M)
       (λ e. voted_sends s id sheet state h k) (λ e. tt)
 
-  pub on_commit_sends : (s : Setting) (c : Command) (q t : ℕ) (state : ProcessState) →
+  pub on_commit_sends : (s : QuorumRule) (c : Command) (q t : ℕ) (state : ProcessState) →
       ((d : Command) (t : ℕ) → (kept c (state.sheets c.id)).command ≡ Some d → M (message (Process me) (Executor me) (MCommitted d (stamp t)))) →
       EachSent M (on_commit s me c q t state)
   on_commit_sends s c q t state h =
@@ -177,7 +177,7 @@ module _ (M : Message → Type 0) (me : Site) where
       cond_both (is_accessed s.shape.partitions c q) (learned s.shape me c.id q t sheet state) (state, []) (EachSent M)
       (λ e. learned_sends s.shape c.id q t sheet state h) (λ e. tt)
 
-  pub joined_sends : (s : Setting) (from : ActorName) (c : Command) (b : ℕ) (sheet : Sheet) (state : ProcessState) →
+  pub joined_sends : (s : QuorumRule) (from : ActorName) (c : Command) (b : ℕ) (sheet : Sheet) (state : ProcessState) →
       ((x a : ℕ) (made : Made) → M (message (Process me) from (MRecAck c.id (stamp x) made a b))) →
       ((to : ActorName) (id : CommandId) (t : ℕ) → M (message (Process me) to (MBump id (stamp t)))) →
       EachSent M (joined s me from c b sheet state)
@@ -194,7 +194,7 @@ module _ (M : Message → Type 0) (me : Site) where
   told_sends from None t g = tt
   told_sends from (Some d) t g = (g d refl, tt)
 
-  on_rec_by_sends : (s : Setting) (from : ActorName) (c : Command) (b : ℕ) (o : Option ℕ) (state : ProcessState) →
+  on_rec_by_sends : (s : QuorumRule) (from : ActorName) (c : Command) (b : ℕ) (o : Option ℕ) (state : ProcessState) →
       ((d : Command) (t : ℕ) → (state.sheets c.id).command ≡ Some d → M (message (Process me) from (MCommit d me.partition (stamp t)))) →
       ((x a : ℕ) (made : Made) → M (message (Process me) from (MRecAck c.id (stamp x) made a b))) →
       ((to : ActorName) (id : CommandId) (t : ℕ) → M (message (Process me) to (MBump id (stamp t)))) →
@@ -204,29 +204,29 @@ module _ (M : Message → Type 0) (me : Site) where
       cond_both (nat_lt (state.sheets c.id).ballot b && nat_lt b LIMIT) (joined s me from c b (state.sheets c.id) state) (state, []) (EachSent M)
       (λ e. joined_sends s from c b (state.sheets c.id) state h k) (λ e. tt)
 
-  pub on_rec_sends : (s : Setting) (from : ActorName) (c : Command) (b : ℕ) (state : ProcessState) →
+  pub on_rec_sends : (s : QuorumRule) (from : ActorName) (c : Command) (b : ℕ) (state : ProcessState) →
       ((d : Command) (t : ℕ) → (state.sheets c.id).command ≡ Some d → M (message (Process me) from (MCommit d me.partition (stamp t)))) →
       ((x a : ℕ) (made : Made) → M (message (Process me) from (MRecAck c.id (stamp x) made a b))) →
       ((to : ActorName) (id : CommandId) (t : ℕ) → M (message (Process me) to (MBump id (stamp t)))) →
       EachSent M (on_rec s me from c b state)
   on_rec_sends s from c b state g h k = on_rec_by_sends s from c b (stamp_of (state.sheets c.id) me.partition.0) state g h k
 
-  put_recovered_sends : (shape : Shape) (id : CommandId) (b : ℕ) (o : Option Command) (sheet : Sheet) (state : ProcessState) →
+  put_recovered_sends : (s : QuorumRule) (id : CommandId) (b : ℕ) (o : Option Command) (sheet : Sheet) (state : ProcessState) →
       ((c : Command) (to : ActorName) (t : ℕ) → o ≡ Some c → M (message (Process me) to (MConsensus c (stamp t) b))) →
-      EachSent M (put_recovered shape me id b o sheet state)
-  put_recovered_sends shape id b None sheet state h = tt
-  put_recovered_sends shape id b (Some c) sheet state h =
-      let t = recovery_choice shape c.home.0 (present sheet.answers) in put_to_vote_sends shape b t (Some c) (λ d to e. h d to t e)
+      EachSent M (put_recovered s me id b o sheet state)
+  put_recovered_sends s id b None sheet state h = tt
+  put_recovered_sends s id b (Some c) sheet state h =
+      let t = recovery_choice (s.in_quorum c) c.home.0 (present sheet.answers) in put_to_vote_sends s.shape b t (Some c) (λ d to e. h d to t e)
 
-  pub on_rec_ack_sends : (s : Setting) (from : ActorName) (id : CommandId) (t : ℕ) (made : Made) (a b : ℕ) (state : ProcessState) →
+  pub on_rec_ack_sends : (s : QuorumRule) (from : ActorName) (id : CommandId) (t : ℕ) (made : Made) (a b : ℕ) (state : ProcessState) →
       ((c : Command) (to : ActorName) (t : ℕ) → (state.sheets id).command ≡ Some c → M (message (Process me) to (MConsensus c (stamp t) b))) →
       EachSent M (on_rec_ack s me from id t made a b state)
   on_rec_ack_sends s from id t made a b state h =
       let new : RecoveryAnswer = record { rank = record { 0 = rank_of from }; stamp = record { 0 = t }; made = made; accepted = a } in
       let sheet = with_answer new (state.sheets id) in
-      cond_both (can_answer me.partition.0 b (rank_of from) (state.sheets id)) (recovered s.shape me id b sheet state) (state, []) (EachSent M)
-      (λ e. cond_both (is_recovered s.shape sheet) (put_recovered s.shape me id b sheet.command sheet state) (with_sheet id sheet state, []) (EachSent M)
-      (λ all. put_recovered_sends s.shape id b sheet.command sheet state h) (λ all. tt))
+      cond_both (can_answer me.partition.0 b (rank_of from) (state.sheets id)) (recovered s me id b sheet state) (state, []) (EachSent M)
+      (λ e. cond_both (is_recovered s.shape sheet) (put_recovered s me id b sheet.command sheet state) (with_sheet id sheet state, []) (EachSent M)
+      (λ all. put_recovered_sends s id b sheet.command sheet state h) (λ all. tt))
       (λ e. tt)
 
   asked_sends : (shape : Shape) (b : ℕ) (o : Option Command) → ((c : Command) (to : ActorName) → o ≡ Some c → M (message (Process me) to (MRec c b))) →

@@ -16,7 +16,7 @@ use Rattle.tp_rules.specs.Journal.{act_of, acts, is_known, ranks_of}
 use Rattle.tp_rules.specs.Left.{place_of, has_untold, unannounced}
 use Rattle.tp_rules.specs.Pending.{sites_of}
 use Rattle.tp_rules.specs.Runs.{MayHappen, FollowsRules}
-use Rattle.tp_rules.specs.Sheet.{Setting, ring_setting, stamp_of}
+use Rattle.tp_rules.specs.Sheet.{QuorumRule, ring_rule, stamp_of}
 use Rattle.tp_rules.specs.declared.event.Entry.{Entry}
 use Rattle.tp_rules.specs.declared.event.Event.TheVariants.{Inner as OfItself}
 use Rattle.tp_rules.specs.declared.event.Inner.TheVariants.{Submit, Recover, Announce, Declare, Execute, Crash}
@@ -58,7 +58,7 @@ pub unannounced_rises : (script : Script) → IsShape script.topology → (older
 unannounced_rises script good older e = omega (arith, filter_length (has_untold script (e ∷ older)) (sites_of script), sites_few script good)
 
 -- a message of a kind that no process has a rule for
-changes_nothing : (s : Setting) (me : Site) (from : ActorName) (body : Body) (state : process.ProcessState) → 11 < place_of body →
+changes_nothing : (s : QuorumRule) (me : Site) (from : ActorName) (body : Body) (state : process.ProcessState) → 11 < place_of body →
     process.on_body s me from body state ≡ (state, [])
 changes_nothing s me from (MPromises lo hi pairs) state h = refl
 changes_nothing s me from (MStable id) state h = refl
@@ -84,7 +84,7 @@ abbrev untold : process.ProcessState → Bool
 untold state = nat_lt state.told state.clock
 
 -- what was told stays told
-act_adds_none : (s : Setting) (me : Site) (act : Act) (state : process.ProcessState) → AddsNone act → untold (process.react s me act state).0 ≡ true →
+act_adds_none : (s : QuorumRule) (me : Site) (act : Act) (state : process.ProcessState) → AddsNone act → untold (process.react s me act state).0 ≡ true →
     untold state ≡ true
 act_adds_none s me (Took m) state h e =
     cond_both (same_name m.to (Process me) && is_name_of s.shape m.from && is_body_at s.shape me.partition.0 m.body)
@@ -113,10 +113,10 @@ act_adds_none s me (Did Crash) state h e = e
 untold_before : (script : Script) (older : List Entry) (e : Entry) (s : Site) → ((act : Act) → act_of older e.event ≡ Some act → AddsNone act) →
     has_untold script (e ∷ older) s ≡ true → has_untold script older s ≡ true
 untold_before script older e s h =
-    let setting = ring_setting script.topology in
-    acts_step (λ (list : List Act). untold (process.state_after setting s list) ≡ true → has_untold script older s ≡ true) older e (Process s)
+    let quorum_rule = ring_rule script.topology in
+    acts_step (λ (list : List Act). untold (process.state_after quorum_rule s list) ≡ true → has_untold script older s ≡ true) older e (Process s)
     (λ t. t)
-    (λ act same is. act_adds_none setting s act (process.state_after setting s (acts older (Process s))) (h act is))
+    (λ act same is. act_adds_none quorum_rule s act (process.state_after quorum_rule s (acts older (Process s))) (h act is))
 
 -- an entry whose act adds none
 pub unannounced_stays : (script : Script) (older : List Entry) (e : Entry) → ((act : Act) → act_of older e.event ≡ Some act → AddsNone act) →
@@ -138,12 +138,12 @@ falls_at : (script : Script) (older : List Entry) (e : Entry) (s : Site) → e.a
     e.event ≡ OfItself Announce →
     has_untold script older s ≡ true → unannounced script (e ∷ older) < unannounced script older
 falls_at script older e s actor listed event before =
-    let setting = ring_setting script.topology in
+    let quorum_rule = ring_rule script.topology in
     let list : acts (e ∷ older) (Process s) ≡ Did Announce ∷ acts older (Process s) =
     acts_then older e (Process s) (Did Announce) actor (ap (act_of older) event) in
     let told : has_untold script (e ∷ older) s ≡ false =
-    ap (λ (l : List Act). untold (process.state_after setting s l)) list ∙ announced_all script.topology s
-    (process.state_after setting s (acts older (Process s))) in
+    ap (λ (l : List Act). untold (process.state_after quorum_rule s l)) list ∙ announced_all script.topology s
+    (process.state_after quorum_rule s (acts older (Process s))) in
     let none : (act : Act) → act_of older e.event ≡ Some act → AddsNone act =
     (λ act is. let same : Did Announce ≡ act = some_act (sym (ap (act_of older) event) ∙ is) in subst AddsNone same tt) in
     one_fewer (has_untold script older) (has_untold script (e ∷ older)) (sites_of script) s (λ x there. untold_before script older e x none)

@@ -12,7 +12,7 @@ use Rattle.tp_rules.specs.Outcome.{is_submission_of}
 use Rattle.tp_rules.specs.Pending.{sites_of}
 use Rattle.tp_rules.specs.Plan.{deliveries_left, is_planned}
 use Rattle.tp_rules.specs.Process as process
-use Rattle.tp_rules.specs.Sheet.{ring_setting}
+use Rattle.tp_rules.specs.Sheet.{ring_rule}
 use Rattle.tp_rules.specs.declared.event.Entry.{Entry}
 use Rattle.tp_script.specs.declared.script.PlanLine.{PlanLine}
 use Rattle.tp_script.specs.declared.script.PlanLine.TheVariants.{Crash as CrashLine, Recover as RecoverLine}
@@ -61,7 +61,7 @@ undelivered script older k =
 
 abbrev pub has_untold : Script → List Entry → Site → Bool
 has_untold script older s =
-    let state = process.state_after (ring_setting script.topology) s (acts older (Process s)) in nat_lt state.told state.clock
+    let state = process.state_after (ring_rule script.topology) s (acts older (Process s)) in nat_lt state.told state.clock
 
 -- the processes whose clock is above what they told
 abbrev pub unannounced : Script → List Entry → ℕ

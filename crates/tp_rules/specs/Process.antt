@@ -19,7 +19,7 @@ use Rattle.tp_quorum.specs.declared.choice.FastChoice.{FastChoice}
 use Rattle.tp_quorum.specs.declared.choice.FastChoice.TheVariants.{Fast, Slow}
 use Rattle.tp_rules.specs.Acts.{Act, Took, Did}
 use Rattle.tp_rules.specs.Addresses.{site, message, to_each, others_accessed, accessed, processes_of, executors_of, rank_of, is_name_of, is_body_at}
-use Rattle.tp_rules.specs.Sheet.{Sheet, Setting, blank, stamp_of, is_fresh, command_or, kept, with_proposal, can_acknowledge, acknowledged, acknowledged_own, is_full, putting, can_accept, with_accepted, can_vote, with_vote, has_consensus, made_of, stamp_told, is_untouched, with_ballot, trying, can_answer, with_answer, is_recovered, with_stamp, final_stamp}
+use Rattle.tp_rules.specs.Sheet.{Sheet, QuorumRule, blank, stamp_of, is_fresh, command_or, kept, with_proposal, can_acknowledge, acknowledged, acknowledged_own, is_full, putting, can_accept, with_accepted, can_vote, with_vote, has_consensus, made_of, stamp_told, is_untouched, with_ballot, trying, can_answer, with_answer, is_recovered, with_stamp, final_stamp}
 use Rattle.tp_rules.specs.declared.event.Inner.{Inner}
 use Rattle.tp_rules.specs.declared.event.Inner.TheVariants.{Announce, Recover}
 use Rattle.tp_topology.specs.Ballots.{next_ballot}
@@ -110,31 +110,31 @@ put_to_vote shape me b t None = []
 put_to_vote shape me b t (Some c) = to_each (Process me) (processes_of shape me.partition.0) (MConsensus c (record { 0 = t }) b)
 
 -- MSubmit: to each other rank, MPropose where it is of the fast quorum, else MPayload
-unfoldable pub proposals : Setting → Site → Command → ℕ → List Message
+unfoldable pub proposals : QuorumRule → Site → Command → ℕ → List Message
 proposals s me c t = map
     (λ rank. message (Process me) (Process (site me.partition.0 rank)) (cond (s.in_quorum c rank) (MPropose c (record { 0 = t })) (MPayload c)))
     (filter (λ rank. not (rank == me.rank.0)) (up_to s.shape.replicas))
 
-abbrev pub submitted : Setting → Site → Command → ℕ → Sheet → ProcessState → Moved
+abbrev pub submitted : QuorumRule → Site → Command → ℕ → Sheet → ProcessState → Moved
 submitted s me c t sheet state = (
   proposing c.id t (acknowledged_own s me.partition.0 me.rank.0 t (with_proposal t Proposal (kept c sheet))) state,
   proposals s me c t ++ bumps s.shape me (command_or c sheet) t,
 )
 
 -- MSubmit(c), where c's home is here and c is fresh
-abbrev pub on_submit : Setting → Site → Command → ProcessState → Moved
+abbrev pub on_submit : QuorumRule → Site → Command → ProcessState → Moved
 on_submit s me c state = cond ((c.home.0 == me.rank.0) && is_fresh me.partition.0 (state.sheets c.id))
     (submitted s me c (next_stamp 0 state) (state.sheets c.id) state)
     (state, [])
 
-abbrev pub proposed : Setting → Site → ActorName → Command → ℕ → Sheet → ProcessState → Moved
+abbrev pub proposed : QuorumRule → Site → ActorName → Command → ℕ → Sheet → ProcessState → Moved
 proposed s me from c t sheet state = (
   proposing c.id t (with_proposal t Proposal (kept c sheet)) state,
   message (Process me) from (MProposeAck c.id (record { 0 = t })) ∷ bumps s.shape me (command_or c sheet) t,
 )
 
 -- MPropose(c, floor), where c is fresh
-abbrev pub on_propose : Setting → Site → ActorName → Command → ℕ → ProcessState → Moved
+abbrev pub on_propose : QuorumRule → Site → ActorName → Command → ℕ → ProcessState → Moved
 on_propose s me from c floor state = cond (is_fresh me.partition.0 (state.sheets c.id))
     (proposed s me from c (next_stamp floor state) (state.sheets c.id) state)
     (state, [])
@@ -143,19 +143,19 @@ on_propose s me from c floor state = cond (is_fresh me.partition.0 (state.sheets
 abbrev pub on_payload : Command → ProcessState → Moved
 on_payload c state = (with_sheet c.id (kept c (state.sheets c.id)) state, [])
 
-abbrev pub chosen : Setting → Site → CommandId → FastChoice → Sheet → ProcessState → Moved
+abbrev pub chosen : QuorumRule → Site → CommandId → FastChoice → Sheet → ProcessState → Moved
 chosen s me id (Fast t) sheet state = decided s.shape me id t.0 sheet state
 chosen s me id (Slow t) sheet state =
     (with_sheet id (putting s.shape me.rank.0 t.0 sheet) state, put_to_vote s.shape me me.rank.0 t.0 sheet.command)
 
 -- where the whole fast quorum has acknowledged, its choice is decided or put to the vote
-abbrev pub gathered : Setting → Site → CommandId → Sheet → ProcessState → Moved
+abbrev pub gathered : QuorumRule → Site → CommandId → Sheet → ProcessState → Moved
 gathered s me id sheet state = cond (is_full s.shape sheet)
     (chosen s me id (fast_choice s.shape (present sheet.acknowledged)) sheet state)
     (with_sheet id sheet state, [])
 
 -- MProposeAck(id, t) from a rank, where it can be acknowledged
-abbrev pub on_propose_ack : Setting → Site → ActorName → CommandId → ℕ → ProcessState → Moved
+abbrev pub on_propose_ack : QuorumRule → Site → ActorName → CommandId → ℕ → ProcessState → Moved
 on_propose_ack s me from id t state = cond (can_acknowledge s me.partition.0 me.rank.0 (rank_of from) (state.sheets id))
     (gathered s me id (acknowledged (rank_of from) t (state.sheets id)) state)
     (state, [])
@@ -177,19 +177,19 @@ on_consensus me from c t b state = cond (can_accept me.partition.0 b (state.shee
     (state, [])
 
 -- where a consensus quorum has voted, the stamp that is put is decided
-abbrev pub voted : Setting → Site → CommandId → Sheet → ProcessState → Moved
+abbrev pub voted : QuorumRule → Site → CommandId → Sheet → ProcessState → Moved
 voted s me id sheet state = cond (has_consensus s.shape sheet)
     (decided s.shape me id sheet.putting_stamp sheet state)
     (with_sheet id sheet state, [])
 
 -- MConsensusAck(id, b) from a rank, where its vote counts
-abbrev pub on_consensus_ack : Setting → Site → ActorName → CommandId → ℕ → ProcessState → Moved
+abbrev pub on_consensus_ack : QuorumRule → Site → ActorName → CommandId → ℕ → ProcessState → Moved
 on_consensus_ack s me from id b state = cond (can_vote me.partition.0 b (state.sheets id))
     (voted s me id (with_vote (rank_of from) (state.sheets id)) state)
     (state, [])
 
 -- MCommit(c, q, t), where c accesses q
-abbrev pub on_commit : Setting → Site → Command → ℕ → ℕ → ProcessState → Moved
+abbrev pub on_commit : QuorumRule → Site → Command → ℕ → ℕ → ProcessState → Moved
 on_commit s me c q t state = cond (is_accessed s.shape.partitions c q)
     (learned s.shape me c.id q t (kept c (state.sheets c.id)) state)
     (state, [])
@@ -203,7 +203,7 @@ abbrev pub answer : Site → ActorName → CommandId → ℕ → Sheet → Messa
 answer me from id b sheet = message (Process me) from (MRecAck id (record { 0 = stamp_told sheet }) (made_of sheet.proposal) sheet.accepted_ballot b)
 
 -- MRec, where a proposal is made first
-abbrev pub proposed_late : Setting → Site → ActorName → Command → ℕ → ℕ → Sheet → ProcessState → Moved
+abbrev pub proposed_late : QuorumRule → Site → ActorName → Command → ℕ → ℕ → Sheet → ProcessState → Moved
 proposed_late s me from c b t sheet state =
     let new = with_ballot b (with_proposal t Recovery (kept c sheet)) in
     (proposing c.id t new state, answer me from c.id b new ∷ bumps s.shape me (command_or c sheet) t)
@@ -213,39 +213,39 @@ agreed me from c b sheet state =
     let new = with_ballot b (kept c sheet) in
     (with_sheet c.id new state, answer me from c.id b new ∷ [])
 
-abbrev pub joined : Setting → Site → ActorName → Command → ℕ → Sheet → ProcessState → Moved
+abbrev pub joined : QuorumRule → Site → ActorName → Command → ℕ → Sheet → ProcessState → Moved
 joined s me from c b sheet state = cond (is_untouched sheet)
     (proposed_late s me from c b (next_stamp 0 state) sheet state)
     (agreed me from c b sheet state)
 
-abbrev pub on_rec_by : Setting → Site → ActorName → Command → ℕ → Option ℕ → ProcessState → Moved
+abbrev pub on_rec_by : QuorumRule → Site → ActorName → Command → ℕ → Option ℕ → ProcessState → Moved
 on_rec_by s me from c b (Some t) state = (state, told me from (state.sheets c.id).command t)
 on_rec_by s me from c b None state = cond (nat_lt (state.sheets c.id).ballot b && nat_lt b LIMIT)
     (joined s me from c b (state.sheets c.id) state)
     (state, [])
 
 -- MRec(c, b): by whether the partition's stamp is known, and where it isn't, the ballot is below b and b is below the limit
-abbrev pub on_rec : Setting → Site → ActorName → Command → ℕ → ProcessState → Moved
+abbrev pub on_rec : QuorumRule → Site → ActorName → Command → ℕ → ProcessState → Moved
 on_rec s me from c b state = on_rec_by s me from c b (stamp_of (state.sheets c.id) me.partition.0) state
 
 -- the stamp that the answers lead to is put to the vote
-abbrev pub put_recovered : Shape → Site → CommandId → ℕ → Option Command → Sheet → ProcessState → Moved
-put_recovered shape me id b None sheet state = (with_sheet id sheet state, [])
-put_recovered shape me id b (Some c) sheet state =
-    let t = recovery_choice shape c.home.0 (present sheet.answers) in
-    (with_sheet id (putting shape b t sheet) state, put_to_vote shape me b t (Some c))
+abbrev pub put_recovered : QuorumRule → Site → CommandId → ℕ → Option Command → Sheet → ProcessState → Moved
+put_recovered s me id b None sheet state = (with_sheet id sheet state, [])
+put_recovered s me id b (Some c) sheet state =
+    let t = recovery_choice (s.in_quorum c) c.home.0 (present sheet.answers) in
+    (with_sheet id (putting s.shape b t sheet) state, put_to_vote s.shape me b t (Some c))
 
-abbrev pub recovered : Shape → Site → CommandId → ℕ → Sheet → ProcessState → Moved
-recovered shape me id b sheet state = cond (is_recovered shape sheet)
-    (put_recovered shape me id b sheet.command sheet state)
+abbrev pub recovered : QuorumRule → Site → CommandId → ℕ → Sheet → ProcessState → Moved
+recovered s me id b sheet state = cond (is_recovered s.shape sheet)
+    (put_recovered s me id b sheet.command sheet state)
     (with_sheet id sheet state, [])
 
 -- MRecAck(id, t, made, a, b) from a rank, where its answer is taken
-abbrev pub on_rec_ack : Setting → Site → ActorName → CommandId → ℕ → Made → ℕ → ℕ → ProcessState → Moved
+abbrev pub on_rec_ack : QuorumRule → Site → ActorName → CommandId → ℕ → Made → ℕ → ℕ → ProcessState → Moved
 on_rec_ack s me from id t made a b state =
     let new : RecoveryAnswer = record { rank = record { 0 = rank_of from }; stamp = record { 0 = t }; made = made; accepted = a } in
     cond (can_answer me.partition.0 b (rank_of from) (state.sheets id))
-    (recovered s.shape me id b (with_answer new (state.sheets id)) state)
+    (recovered s me id b (with_answer new (state.sheets id)) state)
     (state, [])
 
 -- the attached promises above those told, ascending
@@ -283,7 +283,7 @@ on_recover shape me id state =
     (state, [])
 
 -- the rule of each kind of message
-abbrev pub on_body : Setting → Site → ActorName → Body → ProcessState → Moved
+abbrev pub on_body : QuorumRule → Site → ActorName → Body → ProcessState → Moved
 on_body s me from (MSubmit c) state = on_submit s me c state
 on_body s me from (MPropose c floor) state = on_propose s me from c floor.0 state
 on_body s me from (MPayload c) state = on_payload c state
@@ -301,23 +301,23 @@ abbrev pub with_room : ProcessState → Moved → Moved
 with_room state moved = cond (nat_lt moved.0.clock LIMIT) moved (state, [])
 
 -- a message to another actor, or that names what is outside the shape, changes nothing and sends nothing
-abbrev pub on_message : Setting → Site → Message → ProcessState → Moved
+abbrev pub on_message : QuorumRule → Site → Message → ProcessState → Moved
 on_message s me m state =
     cond (same_name m.to (Process me) && is_name_of s.shape m.from && is_body_at s.shape me.partition.0 m.body)
     (with_room state (on_body s me m.from m.body state))
     (state, [])
 
-abbrev pub on_inner : Setting → Site → Inner → ProcessState → Moved
+abbrev pub on_inner : QuorumRule → Site → Inner → ProcessState → Moved
 on_inner s me Announce state = on_announce s.shape me state
 on_inner s me (Recover id) state = on_recover s.shape me id state
 on_inner s me _ state = (state, [])
 
-abbrev pub react : Setting → Site → Act → ProcessState → Moved
+abbrev pub react : QuorumRule → Site → Act → ProcessState → Moved
 react s me (Took m) state = on_message s me m state
 react s me (Did inner) state = on_inner s me inner state
 
 -- after a list of acts, the newest first
-abbrev pub state_after : Setting → Site → List Act → ProcessState
+abbrev pub state_after : QuorumRule → Site → List Act → ProcessState
 state_after s me [] = start s.shape
 state_after s me (act ∷ before) = (react s me act (state_after s me before)).0
 

@@ -11,14 +11,14 @@ use Rattle.tp_rules.specs.Addresses.{accessed}
 use Rattle.tp_rules.specs.Tables.{with_nth, kept_at}
 use Rattle.tp_topology.specs.Shape.{Shape, in_ring, fast_size, slow_size, recovery_size}
 
--- what the rules take of the store's shape, and which ranks are of a command's fast quorum
-pub record Setting : Type 0 where
+-- the store's shape, and which ranks are of a command's fast quorum: of the fast size, its home one of them
+pub record QuorumRule : Type 0 where
   pub shape : Shape
   pub in_quorum : Command → ℕ → Bool
 
 -- the fast quorum of each command is the ring of its home
-abbrev pub ring_setting : Shape → Setting
-ring_setting shape = record { shape = shape; in_quorum = λ c rank. in_ring shape c.home.0 rank }
+abbrev pub ring_rule : Shape → QuorumRule
+ring_rule shape = record { shape = shape; in_quorum = λ c. in_ring shape c.home.0 }
 
 -- a proposal's stamp, and how it was made
 pub record Proposed : Type 0 where
@@ -85,12 +85,12 @@ is_made_by_proposal None = false
 is_made_by_proposal (Some p) = is_proposal p.made
 
 -- whether the command kept has its home here, and a rank is of its quorum
-abbrev pub is_member : Setting → ℕ → ℕ → Option Command → Bool
+abbrev pub is_member : QuorumRule → ℕ → ℕ → Option Command → Bool
 is_member s home rank None = false
 is_member s home rank (Some c) = (c.home.0 == home) && s.in_quorum c rank
 
 -- whether the process of a rank of a partition counts another rank's acknowledgement
-abbrev pub can_acknowledge : Setting → ℕ → ℕ → ℕ → Sheet → Bool
+abbrev pub can_acknowledge : QuorumRule → ℕ → ℕ → ℕ → Sheet → Bool
 can_acknowledge s p own rank sheet =
     is_member s own rank sheet.command && is_made_by_proposal sheet.proposal && (sheet.ballot == 0)
     && (sheet.putting_ballot == 0) && is_none (stamp_of sheet p) && is_none (kept_at sheet.acknowledged rank)
@@ -100,7 +100,7 @@ abbrev pub acknowledged : ℕ → ℕ → Sheet → Sheet
 acknowledged rank t sheet = record sheet { acknowledged = with_nth sheet.acknowledged rank (Some t) }
 
 -- the own proposal is acknowledged where another's would be
-abbrev pub acknowledged_own : Setting → ℕ → ℕ → ℕ → Sheet → Sheet
+abbrev pub acknowledged_own : QuorumRule → ℕ → ℕ → ℕ → Sheet → Sheet
 acknowledged_own s p own t sheet = cond (can_acknowledge s p own own sheet) (acknowledged own t sheet) sheet
 
 -- whether the whole fast quorum has acknowledged

@@ -11,9 +11,9 @@ use Rattle.tp_quorum.specs.declared.choice.FastChoice.{FastChoice}
 use Rattle.tp_quorum.specs.declared.choice.FastChoice.TheVariants.{Fast, Slow}
 use Rattle.tp_rules.specs.Addresses.{is_between}
 use Rattle.tp_rules.specs.Process.{has_next}
-use Rattle.tp_rules.specs.Sheet.{Sheet, blank, can_acknowledge, acknowledged, acknowledged_own, is_full, is_made_by_proposal, is_member, putting, can_accept, with_accepted, can_vote, with_vote, has_consensus, made_of, stamp_told, with_ballot, trying, can_answer, with_answer, is_recovered, ring_setting, stamp_of, with_stamp, final_stamp}
+use Rattle.tp_rules.specs.Sheet.{Sheet, blank, can_acknowledge, acknowledged, acknowledged_own, is_full, is_made_by_proposal, is_member, putting, can_accept, with_accepted, can_vote, with_vote, has_consensus, made_of, stamp_told, with_ballot, trying, can_answer, with_answer, is_recovered, ring_rule, stamp_of, with_stamp, final_stamp}
 use Rattle.tp_topology.specs.Ballots.{next_ballot}
-use Rattle.tp_topology.specs.Shape.{Shape, fast_size}
+use Rattle.tp_topology.specs.Shape.{Shape, fast_size, in_ring}
 
 -- what the process of a site keeps of one command
 pub record SiteSheet : Type 0 where
@@ -43,18 +43,18 @@ proposal_of sheet = option_map (λ p. p.stamp) sheet.proposal
 abbrev pub takes_acknowledgement : ℕ → SiteSheet → Bool
 takes_acknowledgement rank kept =
     is_between rank kept.shape.replicas
-    && can_acknowledge (ring_setting kept.shape) kept.site.partition.0 kept.site.rank.0 rank kept.sheet
+    && can_acknowledge (ring_rule kept.shape) kept.site.partition.0 kept.site.rank.0 rank kept.sheet
 
 -- whether the first proposal of a rank counts
 abbrev pub is_gathering : ℕ → SiteSheet → Bool
 is_gathering rank kept =
-    is_member (ring_setting kept.shape) kept.site.rank.0 rank kept.sheet.command && is_made_by_proposal kept.sheet.proposal
+    is_member (ring_rule kept.shape) kept.site.rank.0 rank kept.sheet.command && is_made_by_proposal kept.sheet.proposal
     && (kept.sheet.ballot == 0) && (kept.sheet.putting_ballot == 0) && is_none (stamp_of kept.sheet kept.site.partition.0)
     && nat_lt (length (present kept.sheet.acknowledged)) (fast_size kept.shape)
 
 -- the own proposal acknowledged, where it counts
 abbrev pub with_own : ℕ → SiteSheet → SiteSheet
-with_own t kept = with_sheet (acknowledged_own (ring_setting kept.shape) kept.site.partition.0 kept.site.rank.0 t kept.sheet) kept
+with_own t kept = with_sheet (acknowledged_own (ring_rule kept.shape) kept.site.partition.0 kept.site.rank.0 t kept.sheet) kept
 
 -- the choice, where the whole fast quorum has acknowledged
 abbrev pub choice_where_full : Shape → Sheet → Option FastChoice
@@ -143,7 +143,7 @@ home_of shape (Some c) = cond (is_between c.home.0 shape.replicas) (Some c.home)
 -- what the answers lead to, by the command's home
 abbrev pub recovery_of : Shape → Sheet → Option Rank → Option ℕ
 recovery_of shape sheet None = None
-recovery_of shape sheet (Some home) = Some (recovery_choice shape home.0 (present sheet.answers))
+recovery_of shape sheet (Some home) = Some (recovery_choice (in_ring shape home.0) home.0 (present sheet.answers))
 
 -- where just a recovery quorum has answered
 abbrev pub recovery_where_full : Shape → Sheet → Option ℕ

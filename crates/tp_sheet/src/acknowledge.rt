@@ -1,7 +1,7 @@
 ghost use Rattle.std.specs.Bool.{OnFalse, OnTrue};
 ghost use Rattle.std.specs.Prelude.{◌≡◌, ◌≤◌, ◌==◌, ◌&&◌, cond, is_none, length, nat_lt};
 ghost use Rattle.tp_quorum.specs.Choice.{present};
-ghost use Rattle.tp_rules.specs.Sheet.{acknowledged, can_acknowledge, is_made_by_proposal, is_member, ring_setting, stamp_of};
+ghost use Rattle.tp_rules.specs.Sheet.{acknowledged, can_acknowledge, is_made_by_proposal, is_member, ring_rule, stamp_of};
 ghost use Rattle.tp_rules.specs.Tables.{kept_at};
 ghost use Rattle.tp_sheet.specs.SiteSheet.{choice_by, choice_where_full, is_gathering, with_acknowledgement, with_own, with_sheet};
 
@@ -37,7 +37,7 @@ impl Sheet {
     fn count_proposal(&mut self, rank: Rank, stamp: Stamp) -> bool
         requires some { 1 ≤ rank.0 }
         requires few { rank.0 ≤ self.old.shape.replicas }
-        ensures counts { result ≡ can_acknowledge (ring_setting self.old.shape) self.old.site.partition.0 self.old.site.rank.0 rank.0 self.old.sheet }
+        ensures counts { result ≡ can_acknowledge (ring_rule self.old.shape) self.old.site.partition.0 self.old.site.rank.0 rank.0 self.old.sheet }
         ensures counted { self.new ≡ with_sheet (cond result (acknowledged rank.0 stamp.0 self.old.sheet) self.old.sheet) self.old }
     {
         self.is_gathering(rank) && self.gather(rank, stamp)
@@ -60,7 +60,7 @@ impl Sheet {
     fn is_member(&self, rank: Rank) -> bool
         requires some { 1 ≤ rank.0 }
         requires few { rank.0 ≤ self.now.shape.replicas }
-        ensures { result ≡ is_member (ring_setting self.now.shape) self.now.site.rank.0 rank.0 self.now.sheet.command }
+        ensures { result ≡ is_member (ring_rule self.now.shape) self.now.site.rank.0 rank.0 self.now.sheet.command }
     {
         match &self.command {
             None => false,

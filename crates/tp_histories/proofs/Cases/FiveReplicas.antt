@@ -9,7 +9,7 @@ use Rattle.tp_rules.specs.Acts.{Act, Took, Identity, ProcessAt}
 use Rattle.tp_rules.specs.Addresses.{message, site}
 use Rattle.tp_rules.specs.Process.{ProcessState, state_after}
 use Rattle.tp_rules.specs.Rules.{outputs_of}
-use Rattle.tp_rules.specs.Sheet.{ring_setting}
+use Rattle.tp_rules.specs.Sheet.{ring_rule}
 use Rattle.tp_topology.specs.Shape.{Shape}
 use Rattle.tp_wire.specs.declared.message.Body.TheVariants.{MSubmit, MPropose, MPayload, MProposeAck, MBump, MConsensus, MConsensusAck, MCommit, MCommitted}
 
@@ -70,7 +70,7 @@ unfolding the_rules
 fast = refl
 
 -- and the home's clock goes on to the stamp
-fast_clock : (state_after (ring_setting five) (site 1 1)
+fast_clock : (state_after (ring_rule five) (site 1 1)
     (acknowledged 4 2 ∷ acknowledged 3 2 ∷ acknowledged 2 1 ∷ submitted ∷ [])).clock ≡ 2
 unfolding the_rules
 fast_clock = refl
@@ -93,7 +93,7 @@ home_votes = refl
 
 -- so does a rank that knew nothing of the command
 abbrev fifth : List Act → ProcessState
-fifth acts = state_after (ring_setting five) (site 1 5) acts
+fifth acts = state_after (ring_rule five) (site 1 5) acts
 
 fifth_votes : outputs_of (ProcessAt five (site 1 5)) [] (put 5)
     ≡ message (process_at 1 5) (process_at 1 1) (MConsensusAck (id 1 1) 1) ∷ []
@@ -146,7 +146,7 @@ bump_sends_nothing : outputs_of fourth [] bump ≡ []
 unfolding the_rules
 bump_sends_nothing = refl
 
-bump_clock : (state_after (ring_setting five) (site 1 4) (bump ∷ [])).clock ≡ 1
+bump_clock : (state_after (ring_rule five) (site 1 4) (bump ∷ [])).clock ≡ 1
 unfolding the_rules
 bump_clock = refl
 

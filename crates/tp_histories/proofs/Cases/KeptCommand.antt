@@ -9,7 +9,7 @@ use Rattle.tp_rules.specs.Acts.{Act, Took, Did, Identity, ProcessAt}
 use Rattle.tp_rules.specs.Addresses.{message, site}
 use Rattle.tp_rules.specs.Process.{ProcessState, state_after}
 use Rattle.tp_rules.specs.Rules.{outputs_of}
-use Rattle.tp_rules.specs.Sheet.{ring_setting}
+use Rattle.tp_rules.specs.Sheet.{ring_rule}
 use Rattle.tp_rules.specs.declared.event.Inner.TheVariants.{Recover}
 use Rattle.tp_topology.specs.Shape.{Shape}
 use Rattle.tp_wire.specs.declared.message.Body.TheVariants.{MSubmit, MPropose, MPayload, MBump, MCommit, MConsensus, MRec, MRecAck}
@@ -41,7 +41,7 @@ unfolding the_rules
 submission = refl
 
 abbrev after : List Act → ProcessState
-after acts = state_after (ring_setting two) (site 1 1) acts
+after acts = state_after (ring_rule two) (site 1 1) acts
 
 -- the kept command's home is elsewhere, so the own proposal isn't acknowledged
 not_acknowledged : ((after (submitted ∷ payload ∷ [])).sheets (id 1 1)).acknowledged ≡ None ∷ None ∷ None ∷ []
@@ -77,7 +77,7 @@ answered_late : outputs_of at_3 (payload_to_3 ∷ []) recovery ≡
 unfolding the_rules
 answered_late = refl
 
-first_kept_at_3 : ((state_after (ring_setting two) (site 1 3) (recovery ∷ payload_to_3 ∷ [])).sheets (id 1 1)).command
+first_kept_at_3 : ((state_after (ring_rule two) (site 1 3) (recovery ∷ payload_to_3 ∷ [])).sheets (id 1 1)).command
     ≡ Some put_both
 unfolding the_rules
 first_kept_at_3 = refl

@@ -9,7 +9,7 @@ use Rattle.tp_rules.specs.Acts.{Act, Took, Did, Identity, ProcessAt}
 use Rattle.tp_rules.specs.Addresses.{message, site}
 use Rattle.tp_rules.specs.Process.{Moved, react, state_after}
 use Rattle.tp_rules.specs.Rules.{outputs_of}
-use Rattle.tp_rules.specs.Sheet.{ring_setting}
+use Rattle.tp_rules.specs.Sheet.{ring_rule}
 use Rattle.tp_rules.specs.declared.event.Inner.TheVariants.{Announce, Recover}
 use Rattle.tp_topology.specs.Shape.{Shape}
 use Rattle.tp_wire.specs.declared.message.Body.TheVariants.{MSubmit, MPropose, MPayload, MProposeAck, MConsensus, MCommit, MRec, MRecAck, MPromises}
@@ -133,8 +133,8 @@ accepted_puts = refl
 
 abbrev IsIgnored : ℕ → List Act → Act → Type 0
 IsIgnored k acts act =
-    ◌≡◌ {A = Moved} (react (ring_setting three) (site 1 k) act (state_after (ring_setting three) (site 1 k) acts))
-    (state_after (ring_setting three) (site 1 k) acts, [])
+    ◌≡◌ {A = Moved} (react (ring_rule three) (site 1 k) act (state_after (ring_rule three) (site 1 k) acts))
+    (state_after (ring_rule three) (site 1 k) acts, [])
 
 recover_unknown : IsIgnored 2 [] recover
 unfolding the_rules

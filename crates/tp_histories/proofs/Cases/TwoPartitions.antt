@@ -9,7 +9,7 @@ use Rattle.tp_rules.specs.Acts.{Act, Took, Did, Identity, ProcessAt, ExecutorAt}
 use Rattle.tp_rules.specs.Addresses.{message, site}
 use Rattle.tp_rules.specs.Process.{state_after}
 use Rattle.tp_rules.specs.Rules.{enabled, outputs_of}
-use Rattle.tp_rules.specs.Sheet.{Sheet, ring_setting, final_stamp}
+use Rattle.tp_rules.specs.Sheet.{Sheet, ring_rule, final_stamp}
 use Rattle.tp_ops.specs.declared.operation.Answer.TheVariants.{Missing}
 use Rattle.tp_rules.specs.declared.event.Inner.TheVariants.{Declare, Execute}
 use Rattle.tp_topology.specs.Shape.{Shape}
@@ -51,7 +51,7 @@ unfolding the_rules
 home_decides = refl
 
 abbrev sheet : Sheet
-sheet = (state_after (ring_setting two) (site 1 1) (acknowledged ∷ submitted ∷ [])).sheets (id 1 1)
+sheet = (state_after (ring_rule two) (site 1 1) (acknowledged ∷ submitted ∷ [])).sheets (id 1 1)
 
 no_stamp_yet : final_stamp two sheet sheet.command ≡ None
 unfolding the_rules
@@ -69,7 +69,7 @@ told_alone = refl
 
 abbrev asked_sheet : Sheet
 asked_sheet =
-    (state_after (ring_setting two) (site 1 1) (recovery ∷ acknowledged ∷ submitted ∷ [])).sheets (id 1 1)
+    (state_after (ring_rule two) (site 1 1) (recovery ∷ acknowledged ∷ submitted ∷ [])).sheets (id 1 1)
 
 still_no_stamp : final_stamp two asked_sheet asked_sheet.command ≡ None
 unfolding the_rules

@@ -8,7 +8,7 @@ use Rattle.tp_rules.specs.Acts.{Act, Took, Did, ProcessAt}
 use Rattle.tp_rules.specs.Addresses.{message, site}
 use Rattle.tp_rules.specs.Process.{ProcessState, Moved, react, state_after}
 use Rattle.tp_rules.specs.Rules.{enabled}
-use Rattle.tp_rules.specs.Sheet.{ring_setting}
+use Rattle.tp_rules.specs.Sheet.{ring_rule}
 use Rattle.tp_rules.specs.declared.event.Inner.TheVariants.{Announce}
 use Rattle.tp_topology.specs.Shape.{Shape}
 use Rattle.tp_wire.specs.declared.message.Body.TheVariants.{MSubmit, MPropose, MPayload, MProposeAck, MBump, MConsensus, MConsensusAck, MCommit, MPromises}
@@ -36,10 +36,10 @@ homeless = command (id 1 1) 6 (Put (98 ∷ []) (49 ∷ []) ∷ [])
 
 -- the process of a rank of partition 1, after its acts
 abbrev after : ℕ → List Act → ProcessState
-after k acts = state_after (ring_setting shape) (site 1 k) acts
+after k acts = state_after (ring_rule shape) (site 1 k) acts
 
 abbrev IsIgnored : ℕ → List Act → Message → Type 0
-IsIgnored k acts m = ◌≡◌ {A = Moved} (react (ring_setting shape) (site 1 k) (Took m) (after k acts)) (after k acts, [])
+IsIgnored k acts m = ◌≡◌ {A = Moved} (react (ring_rule shape) (site 1 k) (Took m) (after k acts)) (after k acts, [])
 
 abbrev submit : ℕ → Command → Message
 submit k c = message (session_of 1) (process_at 1 k) (MSubmit c)

@@ -4,7 +4,7 @@ use Rattle.std.proofs.lemmas.Bool.{and_parts}
 use Rattle.tp_process.proofs.Proposing.{stamp_fits, submit_refused, submit_taken, submits_now}
 use Rattle.tp_process.specs.State.{IsState, takes_proposal, takes_submission}
 use Rattle.tp_rules.specs.Process.{Moved, bumps, proposals}
-use Rattle.tp_rules.specs.Sheet.{command_or, ring_setting}
+use Rattle.tp_rules.specs.Sheet.{command_or, ring_rule}
 use Rattle.tp_sheet.specs.SiteSheet.{SiteSheet}
 use Rattle.tp_process.proofs.process.Process.on_submit.Goals as goal
 
@@ -21,7 +21,7 @@ returns-clause-outputs c = λ s stands.
     let t = c.propose-stamp.result.0 in
     let takes = sym c.takes_submission.ensures.value ∙ c.if-not-takes_submission.false in
     c.in_ok-outputs.ensures
-    ∙ ap (λ (kept : SiteSheet). proposals (ring_setting place.topology) place.site command t ++ bumps place.topology place.site (command_or command kept.sheet) t) (stands.sheets_are command.id)
+    ∙ ap (λ (kept : SiteSheet). proposals (ring_rule place.topology) place.site command t ++ bumps place.topology place.site (command_or command kept.sheet) t) (stands.sheets_are command.id)
     ∙ ap (λ (m : Moved). m.1) (sym (submit_taken _ _ _ _ _ _ command s stands t c.propose-stamp.ensures.stamp takes))
 
 pub returns-clause-state : goal.returns-clause-state
