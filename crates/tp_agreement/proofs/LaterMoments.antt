@@ -11,7 +11,7 @@ use Rattle.tp_rules.proofs.ActsMore.{acts_step}
 use Rattle.tp_rules.specs.Acts.{Act}
 use Rattle.tp_rules.specs.Addresses.{site}
 use Rattle.tp_rules.specs.Journal.{acts}
-use Rattle.tp_rules.specs.Process.{Moved, ProcessState, state_after}
+use Rattle.tp_rules.specs.Process.{Step, ProcessState, state_after}
 use Rattle.tp_rules.specs.Runs.{IsFreeHistory}
 use Rattle.tp_rules.specs.Sheet.{QuorumRule, Sheet, ring_rule}
 use Rattle.tp_rules.specs.declared.event.Entry.{Entry}
@@ -46,7 +46,7 @@ module _ (s : QuorumRule) (me : Site) where
       (row_keeps_whole row (subst (λ (k : CommandId). IsFull s (sheets k).acknowledged) (sym same) whole)))
       (λ n. refl)
 
-  step_keeps_whole : {act : Act} {state : ProcessState} {moved : Moved} → ProcessStep s me act state moved → (i : CommandId)
+  step_keeps_whole : {act : Act} {state : ProcessState} {moved : Step} → ProcessStep s me act state moved → (i : CommandId)
       → IsFull s (state.sheets i).acknowledged → (moved.0.sheets i).acknowledged ≡ (state.sheets i).acknowledged
   step_keeps_whole does_nothing i whole = refl
   step_keeps_whole (bumps_clock clock le) i whole = refl

@@ -1,8 +1,12 @@
--- The ranges of names.
-use Rattle.std.specs.Prelude.{ℕ, ◌≤◌}
+-- The ranges of names and of stamps.
+use Rattle.std.specs.Prelude.{ℕ, ◌^◌, ◌≤◌}
 use Rattle.tp_base.specs.declared.names.CommandId.{CommandId}
 use Rattle.tp_base.specs.declared.names.SessionId.{SessionId}
 use Rattle.tp_base.specs.declared.names.Site.{Site}
+
+-- stamps and ballots stay below this
+abbrev pub STAMP_LIMIT : ℕ
+STAMP_LIMIT = 2 ^ 48
 
 -- from low to high
 abbrev pub IsFrom : ℕ → ℕ → ℕ → Type 0

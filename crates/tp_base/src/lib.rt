@@ -9,7 +9,8 @@ mod sequence;
 
 pub use cut::{Cut, CutFault};
 pub use names::{
-    ActorName, CommandId, Key, Made, NoMemory, Pair, PartitionId, Rank, SessionId, Site, Stamp,
+    ActorName, CommandId, Key, Made, NoMemory, Pair, PartitionId, Rank, STAMP_LIMIT, SessionId,
+    Site, Stamp,
 };
 pub use partition::partition_of;
 pub use put::Put;

@@ -13,6 +13,9 @@ pub struct Rank(pub u8);
 #[derive(Clone, Copy, Debug, PartialEq, Eq, PartialOrd, Ord, Hash)]
 pub struct SessionId(pub u8);
 
+/// Stamps and ballots stay below this.
+pub const STAMP_LIMIT: u64 = 1 << 48;
+
 /// A logical time, from 1.
 #[derive(Clone, Copy, Debug, PartialEq, Eq, PartialOrd, Ord, Hash)]
 pub struct Stamp(pub u64);

@@ -1,5 +1,6 @@
-ghost use Rattle.std.specs.Prelude.{◌≡◌, ◌≤◌, ◌<◌, ◌+◌, ◌^◌, ◌↔◌, ℕ, Option, None};
-ghost use Rattle.tp_base.specs.Promises.{proposed, bumped, IsMadeByProposal, IsMadeByBump};
+ghost use Rattle.std.specs.Prelude.{◌≡◌, ◌≤◌, ◌<◌, ◌+◌, ◌↔◌, ℕ, Option, None};
+ghost use Rattle.tp_base.specs.Limits.{STAMP_LIMIT};
+ghost use Rattle.tp_base.specs.Promises.{proposed_stamp, bumped_clock, IsMadeByProposal, IsMadeByBump};
 ghost use Rattle.tp_base.specs.declared.names.CommandId.{CommandId};
 
 use std::marker::Model;
@@ -13,14 +14,15 @@ pub struct Clock {
 }
 
 impl Model for Clock {
-    ghost use Rattle.std.specs.Prelude.{◌≤◌, ◌<◌, ◌^◌};
+    ghost use Rattle.std.specs.Prelude.{◌≤◌, ◌<◌};
+    ghost use Rattle.tp_base.specs.Limits.{STAMP_LIMIT};
     ghost use Rattle.tp_clock.specs.Clocks.{Promised};
 
     ghost Value = { Promised };
 
     ghost view = { λ c. record { clock = c.clock; told = c.told } };
 
-    ghost invariant = { λ c. (c.told ≤ c.clock) × (c.clock < 2 ^ 48) };
+    ghost invariant = { λ c. (c.told ≤ c.clock) × (c.clock < STAMP_LIMIT) };
 
     ghost inverse = { λ c. record { clock = c.clock; told = c.told } };
 }
@@ -35,7 +37,7 @@ impl Clock {
 
     pub fn now(&self) -> u64
         ensures value { result ≡ self.now.clock }
-        ensures small { result < 2 ^ 48 }
+        ensures small { result < STAMP_LIMIT }
     {
         self.clock
     }
@@ -49,9 +51,9 @@ impl Clock {
 
     /// A stamp that is at least the floor and was never promised before. The clock goes on to it.
     pub fn propose(&mut self, floor: u64) -> Stamp
-        requires floor { floor < 2 ^ 48 }
-        requires room { self.old.clock + 1 < 2 ^ 48 }
-        ensures stamp { result.0 ≡ proposed floor self.old.clock }
+        requires floor { floor < STAMP_LIMIT }
+        requires room { self.old.clock + 1 < STAMP_LIMIT }
+        ensures stamp { result.0 ≡ proposed_stamp floor self.old.clock }
         ensures moved { self.new ≡ record { clock = result.0; told = self.old.told } }
         ensures promised { (id : CommandId) (n : ℕ) → ((self.old.clock < n) × (n ≤ self.new.clock)) ↔ ((owner : Option CommandId) × IsMadeByProposal floor self.old.clock id n owner) }
     {
@@ -61,8 +63,8 @@ impl Clock {
 
     /// Goes on to a stamp, where the clock is not there yet.
     pub fn bump(&mut self, t: u64)
-        requires { t < 2 ^ 48 }
-        ensures moved { self.new ≡ record { clock = bumped t self.old.clock; told = self.old.told } }
+        requires { t < STAMP_LIMIT }
+        ensures moved { self.new ≡ record { clock = bumped_clock t self.old.clock; told = self.old.told } }
         ensures promised { (n : ℕ) → ((self.old.clock < n) × (n ≤ self.new.clock)) ↔ IsMadeByBump t self.old.clock n None }
     {
         self.clock = t.max(self.clock);

@@ -19,7 +19,7 @@ use Rattle.tp_queue.specs.Waiting.{Calls, Entry, IsAfter, IsLeast, left, was_put
 use Rattle.tp_queue.specs.declared.queue.Queue.{Queue}
 use Rattle.tp_rules.specs.Acts.{Act, Did}
 use Rattle.tp_rules.specs.Addresses.{message}
-use Rattle.tp_rules.specs.Executor.{Committed, ExecutorState, Moved, committed_ids, declare_least, declared, execute_least, executed, least, on_committed, on_declare, on_execute, on_inner, state_after, waiting}
+use Rattle.tp_rules.specs.Executor.{Committed, ExecutorState, Step, committed_ids, declare_least, declared, execute_least, executed, least, on_committed, on_declare, on_execute, on_inner, state_after, waiting}
 use Rattle.tp_rules.specs.declared.event.Inner.{Inner}
 use Rattle.tp_store.specs.Values.{contents_of}
 use Rattle.tp_topology.specs.Shape.{Shape}
@@ -73,7 +73,7 @@ commits e e' c copy t new is same store declared first put more state st =
       declared = declared_as e.declared e'.declared (declarations_of state) declared st.declared;
       keys = (refl, st.keys);
     } in
-    subst (λ (b : Bool). IsState e' (cond {A = Moved} b (state, []) (later, [])).0) (sym out) after
+    subst (λ (b : Bool). IsState e' (cond {A = Step} b (state, []) (later, [])).0) (sym out) after
 
 -- a command that was committed before
 pub commits_again : (e e' : Executor) (c copy : Command) (t : ℕ) (new : Bool) → new ≡ false → e'.book ≡ e.book → e'.store ≡ e.store → e'.declared ≡ e.declared
@@ -91,7 +91,7 @@ commits_again e e' c copy t new is book store declared first put state st =
       declared = declared_as e.declared e'.declared (declarations_of state) declared st.declared;
       keys = st.keys;
     } in
-    subst (λ (b : Bool). IsState e' (cond {A = Moved} b (state, []) (later, [])).0) (sym known) after
+    subst (λ (b : Bool). IsState e' (cond {A = Step} b (state, []) (later, [])).0) (sym known) after
 
 -- the queue gave this entry as its least one
 abbrev pub IsFirst : Executor → Option Entry → Type 0
@@ -153,7 +153,7 @@ declares_none e state first st = ap (λ (o : Option Committed). declare_least e.
 pub declares_nothing : (e e' : Executor) → IsFirst e None → SameBesideDeclared e e' → e'.declared ≡ e.declared
     → (state : ExecutorState) → IsState e state → IsState e' (on_declare e.topology e.site state).0
 declares_nothing e e' first same declared state st =
-    subst (λ (m : Moved). IsState e' m.0) (sym (declares_none e state first st)) (same_state e e' state same declared st)
+    subst (λ (m : Step). IsState e' m.0) (sym (declares_none e state first st)) (same_state e e' state same declared st)
 
 -- the least waiting command is executed
 pub executes : (e e' : Executor) (m : Committed) → IsFirst e (Some (entry_of m))
@@ -189,7 +189,7 @@ takes_none e e' first taken book store declared state st =
       declared = declared_as e.declared e'.declared (declarations_of state) declared st.declared;
       keys = st.keys;
     } in
-    subst (λ (m : Moved). IsState e' m.0) (sym (executes_none e state first st)) after
+    subst (λ (m : Step). IsState e' m.0) (sym (executes_none e state first st)) after
 
 -- what is sent where it is executed
 pub executes_sends : (e : Executor) (m : Committed) (answers : List Answer) (outputs : List Message) → IsFirst e (Some (entry_of m))

@@ -4,6 +4,7 @@ use Rattle.std.proofs.Common.{◌≡◌, ℕ, Bool, true, List, [], ◌++◌, le
 use Rattle.std.proofs.lemmas.Bool.{and_parts, both_ways, cond_both, eqb-true, leb-true, ltb-true}
 use Rattle.std.specs.Prelude.{is_none, is_some, nat_le, nat_lt, ◌==◌, ◌&&◌}
 use Rattle.tp_base.proofs.Options.{none_of}
+use Rattle.tp_base.specs.Limits.{STAMP_LIMIT}
 use Rattle.tp_base.specs.Names.{same_name}
 use Rattle.tp_base.specs.declared.names.ActorName.TheVariants.{Process}
 use Rattle.tp_base.specs.declared.names.CommandId.{CommandId}
@@ -19,8 +20,8 @@ use Rattle.tp_quorum.specs.declared.choice.FastChoice.TheVariants.{Fast, Slow}
 use Rattle.tp_rules.proofs.SendsOfProcess.{stamp}
 use Rattle.tp_rules.specs.Acts.{Act, Took, Did}
 use Rattle.tp_rules.specs.Addresses.{is_body_at, is_name_of, rank_of}
-use Rattle.tp_rules.specs.Process.{LIMIT, Moved, ProcessState, accepted as acceptance, agreed, announced, chosen, commits, decided, finished, gathered, has_next, joined, learned, next_stamp, on_body, on_commit, on_consensus, on_consensus_ack, on_propose, on_propose_ack, on_rec_ack, on_rec_by, on_recover, on_submit, proposed, proposing, proposed_late, put_recovered, react, recovered, recovering, submitted, voted, with_room, with_sheet}
-use Rattle.tp_rules.specs.Sheet.{QuorumRule, Sheet, acknowledged, can_accept, can_acknowledge, can_answer, can_vote, final_stamp, has_consensus, is_fresh, is_full, is_recovered, is_untouched, kept, stamp_of, with_answer, with_proposal, with_stamp, with_vote}
+use Rattle.tp_rules.specs.Process.{Step, ProcessState, accept_and_vote, answer_with_old_proposal, announced, follow_choice, commit_messages, decided, finished, conclude_fast_path, has_next, answer_recovery, learned, next_stamp, on_body, on_commit, on_consensus, on_consensus_ack, on_propose, on_propose_ack, on_rec_ack, on_rec_by_stamp, on_recover, on_submit, propose_and_acknowledge, proposing, propose_and_answer, put_recovered, react, recovered, recovering, submitted, voted, with_room, with_sheet}
+use Rattle.tp_rules.specs.Sheet.{QuorumRule, Sheet, acknowledged, can_accept, can_acknowledge, can_answer, can_vote, final_stamp, has_consensus, is_fresh, is_full, is_recovered, is_untouched, with_command, stamp_of, with_answer, with_proposal, with_stamp, with_vote}
 use Rattle.tp_rules.specs.declared.event.Inner.TheVariants.{Announce, Recover}
 use Rattle.tp_topology.specs.Ballots.{next_ballot}
 use Rattle.tp_topology.specs.Shape.{recovery_size, slow_size}
@@ -31,7 +32,7 @@ use Rattle.tp_facts.proofs.StepCases.{IsFinal, untold, final, recovery_answer, g
 use Rattle.tp_facts.proofs.RuleTests.{CanAcknowledge, CanAnswer, can_acknowledge_is, can_answer_is, fresh_is, is_none-some, proposed_before}
 
 module _ (s : QuorumRule) (me : Site) (act : Act) (state : ProcessState) where
-  abbrev IsStep : Moved → Type 0
+  abbrev IsStep : Step → Type 0
   IsStep moved = ProcessStep s me act state moved
 
   abbrev IsSheetStep : CommandId → Sheet → List Message → Type 0
@@ -59,21 +60,21 @@ module _ (s : QuorumRule) (me : Site) (act : Act) (state : ProcessState) where
       let known : Sheet = with_stamp q t sheet in
       cond_both (is_some (stamp_of sheet q)) (with_sheet id sheet state, [])
       (finished me id known known.command (final_stamp s.shape known known.command) state)
-      (λ (moved : Moved). IsStep (moved.0, before ++ moved.1))
+      (λ (moved : Step). IsStep (moved.0, before ++ moved.1))
       (λ y. changes_sheet state.clock (omega arith) (again y) same)
       (λ n. finished_step id known known.command (final_stamp s.shape known known.command) before refl refl same
       (step (is_none-some (stamp_of sheet q) n)))
 
 -- what each kind of message does
 module _ (s : QuorumRule) (me : Site) (m : Message) (state : ProcessState) where
-  abbrev IsTaken : Moved → Type 0
+  abbrev IsTaken : Step → Type 0
   IsTaken moved = ProcessStep s me (Took m) state moved
 
   submit_step : (c : Command) → m.body ≡ MSubmit c → IsTaken (on_submit s me c state)
   submit_step c e =
       let old : Sheet = state.sheets c.id in
       let t : ℕ = next_stamp 0 state in
-      let new : Sheet = with_proposal t Proposal (kept c old) in
+      let new : Sheet = with_proposal t Proposal (with_command c old) in
       cond_both ((c.home.0 == me.rank.0) && is_fresh me.partition.0 old) (submitted s me c t old state) (state, [])
       IsTaken
       (λ y.
@@ -93,26 +94,26 @@ module _ (s : QuorumRule) (me : Site) (m : Message) (state : ProcessState) where
   propose_step c floor e =
       let old : Sheet = state.sheets c.id in
       let t : ℕ = next_stamp floor state in
-      cond_both (is_fresh me.partition.0 old) (proposed s me m.from c t old state) (state, []) IsTaken
+      cond_both (is_fresh me.partition.0 old) (propose_and_acknowledge s me m.from c t old state) (state, []) IsTaken
       (λ y.
       let fresh = fresh_is me.partition.0 old y in
       attaches_proposal t Proposal (omega arith) (proposes c floor t e (omega arith) fresh) fresh refl)
       (λ n. does_nothing)
 
   -- the fast quorum is full
-  chosen_step : (id : CommandId) (t : ℕ) → m.body ≡ MProposeAck id (stamp t)
+  follow_choice_step : (id : CommandId) (t : ℕ) → m.body ≡ MProposeAck id (stamp t)
       → CanAcknowledge s me.partition.0 me.rank.0 (rank_of m.from) (state.sheets id)
       → is_full s.shape (with_acknowledgement m t (state.sheets id)) ≡ true
       → IsTaken
-      (chosen s me id (fast_choice s.shape (present (with_acknowledgement m t (state.sheets id)).acknowledged))
+      (follow_choice s me id (fast_choice s.shape (present (with_acknowledgement m t (state.sheets id)).acknowledged))
       (with_acknowledgement m t (state.sheets id)) state)
   unfolding fast_choice
-  chosen_step id t e can full =
+  follow_choice_step id t e can full =
       let new : Sheet = with_acknowledgement m t (state.sheets id) in
       let top : ℕ = greatest_acknowledged new in
       cond_both (is_fast s.shape (present new.acknowledged)) (Fast (stamp top)) (Slow (stamp top))
-      (λ (choice : FastChoice). IsTaken (chosen s me id choice new state))
-      (λ fast. learned_step s me (Took m) state id me.partition.0 top new (commits s.shape me new.command top) refl
+      (λ (choice : FastChoice). IsTaken (follow_choice s me id choice new state))
+      (λ fast. learned_step s me (Took m) state id me.partition.0 top new (commit_messages s.shape me new.command top) refl
       (λ none out last. decides_fast id t e can full fast last)
       (λ some. absurd (both_ways _ (ap (λ (o : Option _). is_some o) can.known) some)))
       (λ slow. changes_sheet state.clock (omega arith) (puts_slow id t e can full slow) refl)
@@ -122,13 +123,13 @@ module _ (s : QuorumRule) (me : Site) (m : Message) (state : ProcessState) where
   propose_ack_step id t e =
       let old : Sheet = state.sheets id in
       let new : Sheet = acknowledged (rank_of m.from) t old in
-      cond_both (can_acknowledge s me.partition.0 me.rank.0 (rank_of m.from) old) (gathered s me id new state)
+      cond_both (can_acknowledge s me.partition.0 me.rank.0 (rank_of m.from) old) (conclude_fast_path s me id new state)
       (state, []) IsTaken
       (λ y.
       let can = can_acknowledge_is s me.partition.0 me.rank.0 (rank_of m.from) old y in
-      cond_both (is_full s.shape new) (chosen s me id (fast_choice s.shape (present new.acknowledged)) new state)
+      cond_both (is_full s.shape new) (follow_choice s me id (fast_choice s.shape (present new.acknowledged)) new state)
       (with_sheet id new state, []) IsTaken
-      (λ full. chosen_step id t e can full)
+      (λ full. follow_choice_step id t e can full)
       (λ few. changes_sheet state.clock (omega arith) (counts_acknowledgement id t e can few) refl))
       (λ n. does_nothing)
 
@@ -136,12 +137,12 @@ module _ (s : QuorumRule) (me : Site) (m : Message) (state : ProcessState) where
       → IsTaken (on_consensus me m.from c t b state)
   consensus_step c t b e =
       let old : Sheet = state.sheets c.id in
-      cond_both (can_accept me.partition.0 b old && nat_lt b LIMIT) (acceptance me m.from c t b old state) (state, [])
+      cond_both (can_accept me.partition.0 b old && nat_lt b STAMP_LIMIT) (accept_and_vote me m.from c t b old state) (state, [])
       IsTaken
       (λ y.
       let can =
       and_parts (is_none (stamp_of old me.partition.0)) (nat_le old.ballot b)
-      (and_parts (can_accept me.partition.0 b old) (nat_lt b LIMIT) y).0 in
+      (and_parts (can_accept me.partition.0 b old) (nat_lt b STAMP_LIMIT) y).0 in
       changes_sheet _ (omega arith)
       (accepts c t b e (none_of (stamp_of old me.partition.0) can.0) (leb-true old.ballot b can.1)) refl)
       (λ n. does_nothing)
@@ -161,7 +162,7 @@ module _ (s : QuorumRule) (me : Site) (m : Message) (state : ProcessState) where
       cond_both (has_consensus s.shape new) (decided s.shape me id old.putting_stamp new state)
       (with_sheet id new state, []) IsTaken
       (λ enough. learned_step s me (Took m) state id me.partition.0 old.putting_stamp new
-      (commits s.shape me old.command old.putting_stamp) refl
+      (commit_messages s.shape me old.command old.putting_stamp) refl
       (λ _ out last. decides_by_votes id b e none some same
       (leb-true (slow_size s.shape) (count_votes new.votes) enough) last)
       (λ known. absurd (both_ways _ (ap (λ (o : Option _). is_some o) none) known)))
@@ -172,24 +173,24 @@ module _ (s : QuorumRule) (me : Site) (m : Message) (state : ProcessState) where
       → IsTaken (on_commit s me c q t state)
   commit_step c q t e =
       let old : Sheet = state.sheets c.id in
-      cond_both (is_accessed s.shape.partitions c q) (learned s.shape me c.id q t (kept c old) state) (state, [])
+      cond_both (is_accessed s.shape.partitions c q) (learned s.shape me c.id q t (with_command c old) state) (state, [])
       IsTaken
-      (λ y. learned_step s me (Took m) state c.id q t (kept c old) [] refl
+      (λ y. learned_step s me (Took m) state c.id q t (with_command c old) [] refl
       (λ none out last. learns c q t e none last)
       (λ known. knows_already c q t e))
       (λ n. does_nothing)
 
   rec_step : (c : Command) (b : ℕ) → m.body ≡ MRec c b → (o : Option ℕ)
       → stamp_of (state.sheets c.id) me.partition.0 ≡ o
-      → IsTaken (on_rec_by s me m.from c b o state)
+      → IsTaken (on_rec_by_stamp s me m.from c b o state)
   rec_step c b e (Some t) known = passes_commit_on c b t refl e known
   rec_step c b e None none =
       let old : Sheet = state.sheets c.id in
-      cond_both (nat_lt old.ballot b && nat_lt b LIMIT) (joined s me m.from c b old state) (state, []) IsTaken
+      cond_both (nat_lt old.ballot b && nat_lt b STAMP_LIMIT) (answer_recovery s me m.from c b old state) (state, []) IsTaken
       (λ y.
-      let low = ltb-true old.ballot b (and_parts (nat_lt old.ballot b) (nat_lt b LIMIT) y).0 in
-      cond_both (is_untouched old) (proposed_late s me m.from c b (next_stamp 0 state) old state)
-      (agreed me m.from c b old state) IsTaken
+      let low = ltb-true old.ballot b (and_parts (nat_lt old.ballot b) (nat_lt b STAMP_LIMIT) y).0 in
+      cond_both (is_untouched old) (propose_and_answer s me m.from c b (next_stamp 0 state) old state)
+      (answer_with_old_proposal me m.from c b old state) IsTaken
       (λ first.
       let both = and_parts (is_none old.proposal) (old.ballot == 0) first in
       let nothing = none_of old.proposal both.0 in
@@ -260,9 +261,9 @@ pub step_of_act : (s : QuorumRule) (me : Site) (act : Act) (state : ProcessState
 step_of_act s me (Took m) state =
     let here : Bool =
     same_name m.to (Process me) && is_name_of s.shape m.from && is_body_at s.shape me.partition.0 m.body in
-    let moved : Moved = on_body s me m.from m.body state in
+    let moved : Step = on_body s me m.from m.body state in
     cond_both here (with_room state moved) (state, []) (ProcessStep s me (Took m) state)
-    (λ y. cond_both (nat_lt moved.0.clock LIMIT) moved (state, []) (ProcessStep s me (Took m) state)
+    (λ y. cond_both (nat_lt moved.0.clock STAMP_LIMIT) moved (state, []) (ProcessStep s me (Took m) state)
     (λ room. body_step s me m state m.body refl) (λ none. does_nothing))
     (λ n. does_nothing)
 step_of_act s me (Did Announce) state =

@@ -14,7 +14,7 @@ use Rattle.tp_ops.specs.declared.command.Command.{Command}
 use Rattle.tp_rules.proofs.FitPromises.{Descends}
 use Rattle.tp_rules.proofs.SendsOfProcess.{each_to}
 use Rattle.tp_rules.specs.Addresses.{executors_of}
-use Rattle.tp_rules.specs.Process.{ProcessState, announced, told, untold}
+use Rattle.tp_rules.specs.Process.{ProcessState, announced, commit_reply, untold}
 use Rattle.tp_rules.specs.Sheet.{QuorumRule}
 use Rattle.tp_wire.specs.declared.message.Body.{Body}
 use Rattle.tp_wire.specs.declared.message.Body.TheVariants.{MPromises}
@@ -50,7 +50,7 @@ module _ (s : QuorumRule) (me : Site) where
 
   -- a commit is passed on
   pub own_passed : (told_to : ℕ) (attached : List Pair) (sent : List Message) (m : Message) (o : Option Command) (t : ℕ)
-      → Each (IsOwn me told_to attached) sent → Each (IsOwn me told_to attached) (told me m.from o t ++ sent)
+      → Each (IsOwn me told_to attached) sent → Each (IsOwn me told_to attached) (commit_reply me m.from o t ++ sent)
   own_passed told_to attached sent m None t h = h
   own_passed told_to attached sent m (Some c) t h = ((refl, tt), h)
 

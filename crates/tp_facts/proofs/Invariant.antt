@@ -15,7 +15,7 @@ use Rattle.tp_rules.proofs.FitPromises.{descends_higher}
 use Rattle.tp_rules.proofs.SendsOfProcess.{each_to}
 use Rattle.tp_rules.specs.Acts.{Act}
 use Rattle.tp_rules.specs.Addresses.{executors_of}
-use Rattle.tp_rules.specs.Process.{Moved, ProcessState, announced, start, state_after, told, untold}
+use Rattle.tp_rules.specs.Process.{Step, ProcessState, announced, start, state_after, commit_reply, untold}
 use Rattle.tp_rules.specs.Sheet.{QuorumRule, Sheet, blank, stamp_of}
 use Rattle.tp_wire.specs.declared.message.Body.{Body}
 use Rattle.tp_wire.specs.declared.message.Body.TheVariants.{MConsensus, MConsensusAck, MPromises}
@@ -167,13 +167,13 @@ module _ (s : QuorumRule) (me : Site) (of : CommandId → Command) (here : IsHer
     passed_on : (sheets : CommandId → Sheet) → ((id : CommandId) → SheetFacts s me of acts sent id (sheets id))
         → (m : Message) (id : CommandId) (o : Option Command) (t : ℕ) → (sheets id).command ≡ o
         → stamp_of (sheets id) me.partition.0 ≡ Some t
-        → Each (True (act ∷ acts) (told me m.from o t ++ sent) sheets) (told me m.from o t)
-        × ((i : CommandId) → Each (λ n. IsNew i (sheets i) n.body) (told me m.from o t))
+        → Each (True (act ∷ acts) (commit_reply me m.from o t ++ sent) sheets) (commit_reply me m.from o t)
+        × ((i : CommandId) → Each (λ n. IsNew i (sheets i) n.body) (commit_reply me m.from o t))
     passed_on sheets facts m id None t is known = (tt, λ i. tt)
     passed_on sheets facts m id (Some c) t is known =
         let command = subst (λ (o : Option _). KeepsCommand of id o) is (facts id).command in
         let learned =
-        learned_more s me of acts sent act (told me m.from (Some c) t) id (sheets id) (sheets id)
+        learned_more s me of acts sent act (commit_reply me m.from (Some c) t) id (sheets id) (sheets id)
         (later_self (sheets id)) me.partition.0 t ((facts id).known me.partition.0 t known) in
         (((id, (command.1, refl, learned)), tt), λ i. (tt, tt))
 
@@ -211,7 +211,7 @@ module _ (s : QuorumRule) (me : Site) (of : CommandId → Command) (here : IsHer
         (λ other some. inr (before other q some)) other
 
     -- each step keeps all facts
-    facts_after : {state : ProcessState} {moved : Moved} → ProcessStep s me act state moved
+    facts_after : {state : ProcessState} {moved : Step} → ProcessStep s me act state moved
         → ProcessFacts s me of acts sent state → ProcessFacts s me of (act ∷ acts) (moved.1 ++ sent) moved.0
     facts_after {state} does_nothing h =
         let after = unchanged state.sheets h.sheets h.said [] tt (λ id. tt) in
@@ -246,7 +246,7 @@ module _ (s : QuorumRule) (me : Site) (of : CommandId → Command) (here : IsHer
         }
     facts_after {state} (passes_commit_on {m} c b t is e known) h =
         let out = passed_on state.sheets h.sheets m c.id (state.sheets c.id).command t refl known in
-        let after = unchanged state.sheets h.sheets h.said (told me m.from (state.sheets c.id).command t) out.0 out.1 in
+        let after = unchanged state.sheets h.sheets h.said (commit_reply me m.from (state.sheets c.id).command t) out.0 out.1 in
         record {
           promises = h.promises;
           attached = h.attached;

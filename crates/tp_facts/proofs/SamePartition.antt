@@ -12,14 +12,14 @@ use Rattle.tp_base.specs.declared.names.CommandId.{CommandId}
 use Rattle.tp_base.specs.declared.names.Site.{Site}
 use Rattle.tp_ops.specs.declared.command.Command.{Command}
 use Rattle.tp_rules.proofs.Selections.{each_image}
-use Rattle.tp_rules.proofs.SendsOfProcess.{bumps_send, commits_send, each_to, stamp}
+use Rattle.tp_rules.proofs.SendsOfProcess.{bumps_send, commit_messages_send, each_to, stamp}
 use Rattle.tp_rules.specs.Acts.{Act, Took, Did}
 use Rattle.tp_rules.specs.Acts.{Took}
 use Rattle.tp_rules.specs.Addresses.{is_site_of, partition_of, rank_of, site}
 use Rattle.tp_rules.specs.Addresses.{message, partition_of, processes_of, site, to_each}
 use Rattle.tp_rules.specs.Journal.{acts, IsSent}
 use Rattle.tp_rules.specs.Journal.{acts, IsSent}
-use Rattle.tp_rules.specs.Process.{Moved, ProcessState, announced, asked, bumps, commits, proposals, put_to_vote, state_after, told, untold}
+use Rattle.tp_rules.specs.Process.{Step, ProcessState, announced, asked, bumps, commit_messages, proposals, put_to_vote, state_after, commit_reply, untold}
 use Rattle.tp_rules.specs.Runs.{IsFreeHistory}
 use Rattle.tp_rules.specs.Sheet.{QuorumRule, Sheet, ring_rule}
 use Rattle.tp_rules.specs.declared.event.Entry.{Entry}
@@ -87,14 +87,14 @@ module _ (s : QuorumRule) (me : Site) where
   final_near tells_none = tt
   final_near (final c t is last) = ((λ peer. absurd peer), tt)
 
-  commits_near : {sheet : Sheet} {out : List Message} (o : Option Command) (t : ℕ) → IsFinal s.shape me sheet out
-      → Each IsNear (commits s.shape me o t ++ out)
-  commits_near o t last =
-      each_append IsNear _ _ (commits_send IsNear me s.shape o t (λ c to e peer. absurd peer)) (final_near last)
+  commit_messages_near : {sheet : Sheet} {out : List Message} (o : Option Command) (t : ℕ) → IsFinal s.shape me sheet out
+      → Each IsNear (commit_messages s.shape me o t ++ out)
+  commit_messages_near o t last =
+      each_append IsNear _ _ (commit_messages_send IsNear me s.shape o t (λ c to e peer. absurd peer)) (final_near last)
 
-  told_near : (from : ActorName) (o : Option Command) (t : ℕ) → Each IsNear (told me from o t)
-  told_near from None t = tt
-  told_near from (Some c) t = ((λ peer. absurd peer), tt)
+  commit_reply_near : (from : ActorName) (o : Option Command) (t : ℕ) → Each IsNear (commit_reply me from o t)
+  commit_reply_near from None t = tt
+  commit_reply_near from (Some c) t = ((λ peer. absurd peer), tt)
 
   announced_near : (state : ProcessState) → Each IsNear (announced s.shape me state)
   unfolding announced
@@ -108,10 +108,10 @@ module _ (s : QuorumRule) (me : Site) where
   sheet_step_near (submits_and_acknowledges c t e home fresh can) h =
       each_append IsNear _ _ (proposals_near c t) (bumps_near _ t)
   sheet_step_near (proposes {m} c floor t e le fresh) h = (back_near m h e, bumps_near _ t)
-  sheet_step_near (decides_fast id t e can full fast last) h = commits_near _ _ last
+  sheet_step_near (decides_fast id t e can full fast last) h = commit_messages_near _ _ last
   sheet_step_near (puts_slow id t e can full slow) h = put_near _ _ _
   sheet_step_near (accepts {m} c t b e none le) h = (back_near m h e, tt)
-  sheet_step_near (decides_by_votes id b e none some is enough last) h = commits_near _ _ last
+  sheet_step_near (decides_by_votes id b e none some is enough last) h = commit_messages_near _ _ last
   sheet_step_near (learns c q t e none last) h = final_near last
   sheet_step_near (proposes_and_answers_recovery {m} c b t e none low nothing zero) h =
       (back_near m h e, bumps_near _ t)
@@ -120,12 +120,12 @@ module _ (s : QuorumRule) (me : Site) where
   sheet_step_near (starts_recovery id is none) h = asked_near _ _
   sheet_step_near _ h = tt
 
-  step_near : {act : Act} {state : ProcessState} {moved : Moved} → ProcessStep s me act state moved → TakesNear me act
+  step_near : {act : Act} {state : ProcessState} {moved : Step} → ProcessStep s me act state moved → TakesNear me act
       → Each IsNear moved.1
   step_near does_nothing h = tt
   step_near (bumps_clock clock le) h = tt
   step_near {state = state} announces h = announced_near state
-  step_near {state = state} (passes_commit_on {m} c b t is e known) h = told_near m.from (state.sheets c.id).command t
+  step_near {state = state} (passes_commit_on {m} c b t is e known) h = commit_reply_near m.from (state.sheets c.id).command t
   step_near (changes_sheet clock le step same) h = sheet_step_near step h
   step_near (attaches_proposal t made lt step none is) h = sheet_step_near step h
 

@@ -11,10 +11,10 @@ use Rattle.tp_base.specs.declared.names.Made.TheVariants.{Proposal}
 use Rattle.tp_choice.specs.Choosing.{recovery_choice}
 use Rattle.tp_ops.specs.declared.command.Command.{Command}
 use Rattle.tp_quorum.specs.Choice.{present, greatest}
-use Rattle.tp_rules.proofs.SendsOfProcess.{bumps_send, commits_send, each_to, proposals_send, put_to_vote_sends, stamp}
+use Rattle.tp_rules.proofs.SendsOfProcess.{bumps_send, commit_messages_send, each_to, proposals_send, put_to_vote_sends, stamp}
 use Rattle.tp_rules.specs.Acts.{Act, Took}
 use Rattle.tp_rules.specs.Addresses.{rank_of}
-use Rattle.tp_rules.specs.Process.{asked, bumps, commits, proposals, put_to_vote}
+use Rattle.tp_rules.specs.Process.{asked, bumps, commit_messages, proposals, put_to_vote}
 use Rattle.tp_rules.specs.Sheet.{QuorumRule, Sheet, command_or}
 use Rattle.tp_topology.specs.Ballots.{next_ballot}
 use Rattle.tp_wire.specs.declared.message.Body.{Body}
@@ -128,8 +128,8 @@ module _ (s : QuorumRule) (me : Site) (of : CommandId → Command) (acts : List 
   sent_sound {act = act} {old = old} {new = new} {out = out}
       (decides_fast {m = m} {out = rest} id t e can full fast last) g h k goes before =
       let top : ℕ = greatest (present new.acknowledged) in
-      each_append (Sound act out id old new) (commits s.shape me old.command top) rest
-      (commits_send (Sound act out id old new) me s.shape old.command top (λ c to some. record {
+      each_append (Sound act out id old new) (commit_messages s.shape me old.command top) rest
+      (commit_messages_send (Sound act out id old new) me s.shape old.command top (λ c to some. record {
         true = (
           (kept_is of id old.command c h.command some).1,
           refl,
@@ -184,8 +184,8 @@ module _ (s : QuorumRule) (me : Site) (of : CommandId → Command) (acts : List 
       )
   sent_sound {act = act} {old = old} {new = new} {out = out}
       (decides_by_votes {m = m} {out = rest} id b e none some same enough last) g h k goes before =
-      each_append (Sound act out id old new) (commits s.shape me old.command old.putting_stamp) rest
-      (commits_send (Sound act out id old new) me s.shape old.command old.putting_stamp (λ c to is. record {
+      each_append (Sound act out id old new) (commit_messages s.shape me old.command old.putting_stamp) rest
+      (commit_messages_send (Sound act out id old new) me s.shape old.command old.putting_stamp (λ c to is. record {
         true = (
           (kept_is of id old.command c h.command is).1,
           refl,

@@ -16,8 +16,8 @@ use Rattle.tp_quorum.specs.Choice.{present, greatest, is_fast}
 use Rattle.tp_rules.proofs.SendsOfProcess.{stamp}
 use Rattle.tp_rules.specs.Acts.{Act, Took, Did}
 use Rattle.tp_rules.specs.Addresses.{message, rank_of}
-use Rattle.tp_rules.specs.Process.{Moved, ProcessState, announced, answer, asked, bumps, commits, proposals, put_to_vote, told}
-use Rattle.tp_rules.specs.Sheet.{QuorumRule, Sheet, acknowledged, command_or, final_stamp, is_full, kept, putting, stamp_of, trying, with_accepted, with_answer, with_ballot, with_proposal, with_stamp, with_vote}
+use Rattle.tp_rules.specs.Process.{Step, ProcessState, announced, answer, asked, bumps, commit_messages, proposals, put_to_vote, commit_reply}
+use Rattle.tp_rules.specs.Sheet.{QuorumRule, Sheet, acknowledged, command_or, final_stamp, is_full, with_command, putting, stamp_of, trying, with_accepted, with_answer, with_ballot, with_proposal, with_stamp, with_vote}
 use Rattle.tp_rules.specs.declared.event.Inner.TheVariants.{Recover}
 use Rattle.tp_topology.specs.Ballots.{next_ballot}
 use Rattle.tp_topology.specs.Shape.{Shape, recovery_size, slow_size}
@@ -60,22 +60,22 @@ pub data SheetStep (s : QuorumRule) (me : Site) : Act → CommandId → Sheet �
   -- the home proposes a command that a session submitted
   submits : {m : Message} {old : Sheet} (c : Command) (t : ℕ) → m.body ≡ MSubmit c → c.home.0 ≡ me.rank.0
       → old.proposal ≡ None
-      → SheetStep s me (Took m) c.id old (with_proposal t Proposal (kept c old))
+      → SheetStep s me (Took m) c.id old (with_proposal t Proposal (with_command c old))
       (proposals s me c t ++ bumps s.shape me (command_or c old) t)
   -- and counts its own proposal as an acknowledgement
   submits_and_acknowledges : {m : Message} {old : Sheet} (c : Command) (t : ℕ) → m.body ≡ MSubmit c
       → c.home.0 ≡ me.rank.0 → old.proposal ≡ None
-      → CanAcknowledge s me.partition.0 me.rank.0 me.rank.0 (with_proposal t Proposal (kept c old))
-      → SheetStep s me (Took m) c.id old (acknowledged me.rank.0 t (with_proposal t Proposal (kept c old)))
+      → CanAcknowledge s me.partition.0 me.rank.0 me.rank.0 (with_proposal t Proposal (with_command c old))
+      → SheetStep s me (Took m) c.id old (acknowledged me.rank.0 t (with_proposal t Proposal (with_command c old)))
       (proposals s me c t ++ bumps s.shape me (command_or c old) t)
   -- a member of the fast quorum proposes no less than the home's stamp, and acknowledges
   proposes : {m : Message} {old : Sheet} (c : Command) (floor t : ℕ) → m.body ≡ MPropose c (stamp floor) → floor ≤ t
       → old.proposal ≡ None
-      → SheetStep s me (Took m) c.id old (with_proposal t Proposal (kept c old))
+      → SheetStep s me (Took m) c.id old (with_proposal t Proposal (with_command c old))
       (message (Process me) m.from (MProposeAck c.id (stamp t)) ∷ bumps s.shape me (command_or c old) t)
   -- a process outside of the fast quorum keeps the command
   keeps_payload : {m : Message} {old : Sheet} (c : Command) → m.body ≡ MPayload c
-      → SheetStep s me (Took m) c.id old (kept c old) []
+      → SheetStep s me (Took m) c.id old (with_command c old) []
   -- the fast quorum is not full yet
   counts_acknowledgement : {m : Message} {old : Sheet} (id : CommandId) (t : ℕ) → m.body ≡ MProposeAck id (stamp t)
       → CanAcknowledge s me.partition.0 me.rank.0 (rank_of m.from) old
@@ -92,7 +92,7 @@ pub data SheetStep (s : QuorumRule) (me : Site) : Act → CommandId → Sheet �
       → SheetStep s me (Took m) id old
       (with_stamp me.partition.0 (greatest_acknowledged (with_acknowledgement m t old))
       (with_acknowledgement m t old))
-      (commits s.shape me old.command (greatest_acknowledged (with_acknowledgement m t old)) ++ out)
+      (commit_messages s.shape me old.command (greatest_acknowledged (with_acknowledgement m t old)) ++ out)
   -- the fast quorum is full, but too few proposed the greatest stamp: it is put to the vote
   puts_slow : {m : Message} {old : Sheet} (id : CommandId) (t : ℕ) → m.body ≡ MProposeAck id (stamp t)
       → CanAcknowledge s me.partition.0 me.rank.0 (rank_of m.from) old
@@ -105,7 +105,7 @@ pub data SheetStep (s : QuorumRule) (me : Site) : Act → CommandId → Sheet �
   -- a stamp that was put is accepted
   accepts : {m : Message} {old : Sheet} (c : Command) (t b : ℕ) → m.body ≡ MConsensus c (stamp t) b
       → stamp_of old me.partition.0 ≡ None → old.ballot ≤ b
-      → SheetStep s me (Took m) c.id old (with_accepted b t (kept c old))
+      → SheetStep s me (Took m) c.id old (with_accepted b t (with_command c old))
       (message (Process me) m.from (MConsensusAck c.id b) ∷ [])
   -- too few have voted yet
   counts_vote : {m : Message} {old : Sheet} (id : CommandId) (b : ℕ) → m.body ≡ MConsensusAck id b
@@ -117,28 +117,28 @@ pub data SheetStep (s : QuorumRule) (me : Site) : Act → CommandId → Sheet �
       → slow_size s.shape ≤ count_votes (with_vote (rank_of m.from) old).votes
       → IsFinal s.shape me (with_stamp me.partition.0 old.putting_stamp (with_vote (rank_of m.from) old)) out
       → SheetStep s me (Took m) id old (with_stamp me.partition.0 old.putting_stamp (with_vote (rank_of m.from) old))
-      (commits s.shape me old.command old.putting_stamp ++ out)
+      (commit_messages s.shape me old.command old.putting_stamp ++ out)
   -- a commit of a partition whose stamp is known
   knows_already : {m : Message} {old : Sheet} (c : Command) (q t : ℕ) → m.body ≡ MCommit c (record { 0 = q }) (stamp t)
-      → SheetStep s me (Took m) c.id old (kept c old) []
+      → SheetStep s me (Took m) c.id old (with_command c old) []
   -- a commit of a partition whose stamp was not known
   learns : {m : Message} {old : Sheet} {out : List Message} (c : Command) (q t : ℕ)
       → m.body ≡ MCommit c (record { 0 = q }) (stamp t) → stamp_of old q ≡ None
-      → IsFinal s.shape me (with_stamp q t (kept c old)) out
-      → SheetStep s me (Took m) c.id old (with_stamp q t (kept c old)) out
+      → IsFinal s.shape me (with_stamp q t (with_command c old)) out
+      → SheetStep s me (Took m) c.id old (with_stamp q t (with_command c old)) out
   -- a recovery reaches a process that has nothing of the command
   proposes_and_answers_recovery : {m : Message} {old : Sheet} (c : Command) (b t : ℕ) → m.body ≡ MRec c b
       → stamp_of old me.partition.0 ≡ None → old.ballot < b
       → old.proposal ≡ None → old.ballot ≡ 0
-      → SheetStep s me (Took m) c.id old (with_ballot b (with_proposal t Recovery (kept c old)))
-      (answer me m.from c.id b (with_ballot b (with_proposal t Recovery (kept c old))) ∷ bumps s.shape me
+      → SheetStep s me (Took m) c.id old (with_ballot b (with_proposal t Recovery (with_command c old)))
+      (answer me m.from c.id b (with_ballot b (with_proposal t Recovery (with_command c old))) ∷ bumps s.shape me
       (command_or c old) t)
   -- a recovery reaches a process that has proposed or joined a ballot before
   answers_recovery : {m : Message} {old : Sheet} (c : Command) (b : ℕ) → m.body ≡ MRec c b
       → stamp_of old me.partition.0 ≡ None → old.ballot < b
       → (old.ballot ≡ 0 → is_none old.proposal ≡ false)
-      → SheetStep s me (Took m) c.id old (with_ballot b (kept c old))
-      (answer me m.from c.id b (with_ballot b (kept c old)) ∷ [])
+      → SheetStep s me (Took m) c.id old (with_ballot b (with_command c old))
+      (answer me m.from c.id b (with_ballot b (with_command c old)) ∷ [])
   -- too few have answered yet
   counts_answer : {m : Message} {old : Sheet} (id : CommandId) (t : ℕ) (made : Made) (a b : ℕ)
       → m.body ≡ MRecAck id (stamp t) made a b → CanAnswer me.partition.0 b (rank_of m.from) old
@@ -158,7 +158,7 @@ pub data SheetStep (s : QuorumRule) (me : Site) : Act → CommandId → Sheet �
       (asked s.shape me (next_ballot s.shape me.rank.0 old.ballot old.tried) old.command)
 
 -- what one step does to the process, and what it sends
-pub data ProcessStep (s : QuorumRule) (me : Site) (act : Act) (state : ProcessState) : Moved → Type 0 where
+pub data ProcessStep (s : QuorumRule) (me : Site) (act : Act) (state : ProcessState) : Step → Type 0 where
   does_nothing : ProcessStep s me act state (state, [])
   bumps_clock : (clock : ℕ) → state.clock ≤ clock
       → ProcessStep s me act state
@@ -176,7 +176,7 @@ pub data ProcessStep (s : QuorumRule) (me : Site) (act : Act) (state : ProcessSt
   -- a recovery asks for a stamp that the process knows
   passes_commit_on : {m : Message} (c : Command) (b t : ℕ) → act ≡ Took m → m.body ≡ MRec c b
       → stamp_of (state.sheets c.id) me.partition.0 ≡ Some t
-      → ProcessStep s me act state (state, told me m.from (state.sheets c.id).command t)
+      → ProcessStep s me act state (state, commit_reply me m.from (state.sheets c.id).command t)
   -- it changes one sheet, without a proposal
   changes_sheet : {id : CommandId} {new : Sheet} {out : List Message} (clock : ℕ) → state.clock ≤ clock
       → SheetStep s me act id (state.sheets id) new out

@@ -48,7 +48,7 @@ pub record IsDeclaredIn (script : Script) (older : List Entry) (p : ℕ) (id : C
 abbrev TellsDeclared : executor.ExecutorState → Message → Type 0
 TellsDeclared state m = (id : CommandId) → m.body ≡ MStable id → has same_id id state.declared ≡ true
 
-abbrev AllTellDeclared : executor.Moved → Type 0
+abbrev AllTellDeclared : executor.Step → Type 0
 AllTellDeclared moved = Each (TellsDeclared moved.0) moved.1
 
 declaration_tells : (shape : Shape) (me : Site) (o : Option executor.Committed) (state : executor.ExecutorState) →

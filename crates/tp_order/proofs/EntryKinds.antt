@@ -40,7 +40,7 @@ pub record IsQuiet (before after : executor.ExecutorState) : Type 0 where
 quiet_state : (state : executor.ExecutorState) → IsQuiet state state
 quiet_state state = record { executed = refl; declared = refl }
 
-abbrev IsQuietMove : executor.ExecutorState → executor.Moved → Type 0
+abbrev IsQuietMove : executor.ExecutorState → executor.Step → Type 0
 IsQuietMove state moved = IsQuiet state moved.0
 
 -- what a message tells is no execution or declaration

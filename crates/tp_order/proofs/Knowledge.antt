@@ -52,7 +52,7 @@ module _ (P : Message → Type 0) (shape : Shape) (me : Site) where
     pub committed : Each CommittedMessage state.committed
     pub heard : Each StableMessage state.heard
 
-  abbrev KnowsAfter : executor.Moved → Type 0
+  abbrev KnowsAfter : executor.Step → Type 0
   KnowsAfter moved = KnowsByMessages moved.0
 
   -- a message adds what it tells

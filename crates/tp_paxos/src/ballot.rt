@@ -1,4 +1,5 @@
-ghost use Rattle.std.specs.Prelude.{◌≡◌, ◌≤◌, ◌<◌, ◌-◌, ◌^◌, ℕ};
+ghost use Rattle.std.specs.Prelude.{◌≡◌, ◌≤◌, ◌<◌, ◌-◌, ℕ};
+ghost use Rattle.tp_base.specs.Limits.{STAMP_LIMIT};
 ghost use Rattle.tp_topology.specs.Ballots.{next_ballot as next_ballot_of, owner as owner_of};
 
 use tp_base::Rank;
@@ -19,13 +20,13 @@ pub fn owner(topology: &Topology, ballot: u64) -> Rank
 pub fn next_ballot(topology: &Topology, rank: Rank, own: u64, tried: u64) -> u64
     requires some { 1 ≤ rank.0 }
     requires few { rank.0 ≤ topology.now.replicas }
-    requires own { own < 2 ^ 48 - 8 }
-    requires tried { tried < 2 ^ 48 - 8 }
+    requires own { own < STAMP_LIMIT - 8 }
+    requires tried { tried < STAMP_LIMIT - 8 }
     ensures ballot { result ≡ next_ballot_of topology.now rank.0 own tried }
     ensures above { (topology.now.replicas < result) × (own < result) × (tried < result) }
     ensures owner { owner_of topology.now result ≡ rank.0 }
     ensures least { (b : ℕ) → topology.now.replicas < b → own < b → tried < b → owner_of topology.now b ≡ rank.0 → result ≤ b }
-    ensures small { result < 2 ^ 48 }
+    ensures small { result < STAMP_LIMIT }
 {
     let replicas = u64::from(topology.replicas());
     let from = replicas.max(own.max(tried)) + 1;

@@ -7,7 +7,7 @@ use Rattle.tp_choice.specs.declared.answer.RecoveryAnswer.{RecoveryAnswer}
 use Rattle.tp_rules.specs.Addresses.{is_between}
 use Rattle.tp_rules.specs.Sheet.{blank, is_fresh, stamp_of}
 use Rattle.tp_rules.specs.Tables.{kept_at, flat}
-use Rattle.tp_sheet.specs.SiteSheet.{blank_at, takes_acknowledgement, choice_by, with_acknowledgement, takes_vote, decision_by, with_vote_of, final_of, ballot_by, with_try, takes_answer, recovery_by, with_answer_of}
+use Rattle.tp_sheet.specs.SiteSheet.{blank_at, takes_acknowledgement, choice_after_ack, with_acknowledgement, takes_vote, decision_after_vote, with_vote_of, final_of, ballot_by, with_try, takes_answer, choice_after_answer, with_answer_of}
 use Rattle.tp_topology.specs.Shape.{Shape}
 
 empty_place : (n i : ℕ) → flat (slice_get (replicate n (let none : Option ℕ = None in none)) i) ≡ None
@@ -39,7 +39,7 @@ blank-takes : (shape : Shape) (site : Site) (rank : ℕ) → takes_acknowledgeme
 unfolding blank
 blank-takes shape site rank = never (is_between rank shape.replicas)
 
-pub blank-choice : (shape : Shape) (site : Site) (rank t : ℕ) → choice_by rank t (blank_at shape site) ≡ None
+pub blank-choice : (shape : Shape) (site : Site) (rank t : ℕ) → choice_after_ack rank t (blank_at shape site) ≡ None
 blank-choice shape site rank t = rw (blank-takes shape site rank) refl
 
 pub blank-acknowledges : (shape : Shape) (site : Site) (rank t : ℕ) → with_acknowledgement rank t (blank_at shape site) ≡ blank_at shape site
@@ -59,7 +59,7 @@ unfolding blank
 blank-takes_vote shape site rank b =
     ap (λ (counts : Bool). is_between rank shape.replicas && counts) (no_ballot _ b _ refl) ∙ never (is_between rank shape.replicas)
 
-pub blank-decision : (shape : Shape) (site : Site) (rank b : ℕ) → decision_by rank b (blank_at shape site) ≡ None
+pub blank-decision : (shape : Shape) (site : Site) (rank b : ℕ) → decision_after_vote rank b (blank_at shape site) ≡ None
 blank-decision shape site rank b = rw (blank-takes_vote shape site rank b) refl
 
 pub blank-votes : (shape : Shape) (site : Site) (rank b : ℕ) → with_vote_of rank b (blank_at shape site) ≡ blank_at shape site
@@ -95,7 +95,7 @@ unfolding blank
 blank-takes_answer shape site rank b =
     ap (λ (counts : Bool). is_between rank shape.replicas && counts) (no_try _ b _ _ refl) ∙ never (is_between rank shape.replicas)
 
-pub blank-recovery : (shape : Shape) (site : Site) (a : RecoveryAnswer) (b : ℕ) → recovery_by a b (blank_at shape site) ≡ None
+pub blank-recovery : (shape : Shape) (site : Site) (a : RecoveryAnswer) (b : ℕ) → choice_after_answer a b (blank_at shape site) ≡ None
 blank-recovery shape site a b = rw (blank-takes_answer shape site a.rank.0 b) refl
 
 pub blank-answers : (shape : Shape) (site : Site) (a : RecoveryAnswer) (b : ℕ) → with_answer_of a b (blank_at shape site) ≡ blank_at shape site

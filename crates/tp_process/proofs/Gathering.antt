@@ -1,6 +1,7 @@
 -- What a rank's acknowledgement leads to, by the sheet and by the rules.
 use Rattle.std.proofs.Common.{◌≡◌, ℕ, ◌<◌, Bool, true, false, ◌&&◌, cond, List, [], Option, Some, None, refl, ap, subst}
 use Rattle.std.proofs.lemmas.Bool.{cond_both}
+use Rattle.tp_base.specs.Limits.{STAMP_LIMIT}
 use Rattle.tp_base.specs.declared.names.ActorName.TheVariants.{Process}
 use Rattle.tp_base.specs.declared.names.CommandId.{CommandId}
 use Rattle.tp_base.specs.declared.names.Site.{Site}
@@ -11,13 +12,13 @@ use Rattle.tp_quorum.specs.Choice.{fast_choice, greatest, is_fast, present}
 use Rattle.tp_quorum.specs.declared.choice.FastChoice.{FastChoice}
 use Rattle.tp_quorum.specs.declared.choice.FastChoice.TheVariants.{Fast, Slow}
 use Rattle.tp_rules.specs.Addresses.{is_between, site as site_of}
-use Rattle.tp_rules.specs.Process.{LIMIT, Moved, ProcessState, chosen, decided, on_propose_ack, put_to_vote, with_sheet}
+use Rattle.tp_rules.specs.Process.{Step, ProcessState, follow_choice, decided, on_propose_ack, put_to_vote, with_sheet}
 use Rattle.tp_rules.specs.Sheet.{Sheet, acknowledged, can_acknowledge, is_full, putting, ring_rule}
-use Rattle.tp_sheet.specs.SiteSheet.{choice_by, put_by, with_acknowledgement}
+use Rattle.tp_sheet.specs.SiteSheet.{choice_after_ack, put_by, with_acknowledgement}
 use Rattle.tp_topology.specs.Shape.{Shape}
 
 -- the row of the rules for a rank of the shape
-abbrev pub counted : Shape → Site → ℕ → CommandId → ℕ → ProcessState → Moved
+abbrev pub counted : Shape → Site → ℕ → CommandId → ℕ → ProcessState → Step
 counted shape me rank id t s = on_propose_ack (ring_rule shape) me (Process (site_of 0 rank)) id t s
 
 module _ (shape : Shape) (me : Site) (id : CommandId) (sheet acked : Sheet) (s : ProcessState) where
@@ -27,8 +28,8 @@ module _ (shape : Shape) (me : Site) (id : CommandId) (sheet acked : Sheet) (s :
   abbrev sheet_if : Bool → Bool → FastChoice → Sheet
   sheet_if b f choice = cond b (put_by shape me.rank.0 (choice_if b f choice) acked) sheet
 
-  abbrev row_if : Bool → Bool → FastChoice → Moved
-  row_if b f choice = cond {A = Moved} b (cond {A = Moved} f (chosen (ring_rule shape) me id choice acked s) (with_sheet id acked s, [])) (s, [])
+  abbrev row_if : Bool → Bool → FastChoice → Step
+  row_if b f choice = cond {A = Step} b (cond {A = Step} f (follow_choice (ring_rule shape) me id choice acked s) (with_sheet id acked s, [])) (s, [])
 
   fast_if : (w b f : Bool) (choice : FastChoice) (top : Stamp) → w ≡ true → choice_if (w && b) f choice ≡ Some (Fast top)
       → (row_if b f choice ≡ decided shape me id top.0 acked s) × (sheet_if (w && b) f choice ≡ acked) × (choice ≡ Fast top)
@@ -46,7 +47,7 @@ module _ (shape : Shape) (me : Site) (id : CommandId) (sheet acked : Sheet) (s :
       × (choice ≡ Slow top)
   slow_if true true true (Slow t) top within e =
       let same : t ≡ top = cc in (
-        ap (λ (n : Stamp). let moved : Moved = (with_sheet id (putting shape me.rank.0 n.0 acked) s, put_to_vote shape me me.rank.0 n.0 acked.command) in moved) same,
+        ap (λ (n : Stamp). let moved : Step = (with_sheet id (putting shape me.rank.0 n.0 acked) s, put_to_vote shape me me.rank.0 n.0 acked.command) in moved) same,
         ap (λ (n : Stamp). putting shape me.rank.0 n.0 acked) same,
         ap (λ (n : Stamp). Slow n) same,
       )
@@ -56,7 +57,7 @@ module _ (shape : Shape) (me : Site) (id : CommandId) (sheet acked : Sheet) (s :
   slow_if false b f choice top within e = absurd cc
 
   -- what a rank's acknowledgement comes to without a choice: it is kept, or it doesn't count
-  pub data Quiet : Moved → Sheet → Type 0 where
+  pub data Quiet : Step → Sheet → Type 0 where
     kept_only : Quiet (with_sheet id acked s, []) acked
     refused : Quiet (s, []) sheet
 
@@ -67,20 +68,20 @@ module _ (shape : Shape) (me : Site) (id : CommandId) (sheet acked : Sheet) (s :
   quiet_if true false f choice within e = refused
   quiet_if false b f choice within e = absurd cc
 
-top_low : (shape : Shape) (table : List (Option ℕ)) (top : Stamp) → AreLow table → fast_choice shape (present table) ≡ Fast top → top.0 < LIMIT
+top_low : (shape : Shape) (table : List (Option ℕ)) (top : Stamp) → AreLow table → fast_choice shape (present table) ≡ Fast top → top.0 < STAMP_LIMIT
 unfolding fast_choice
-top_low shape table top low = cond_both {A = FastChoice} (is_fast shape (present table)) (Fast best) (Slow best) (λ choice. choice ≡ Fast top → top.0 < LIMIT)
-    (λ t e. let same : best ≡ top = cc in subst (λ (n : Stamp). n.0 < LIMIT) same (greatest_low table low))
+top_low shape table top low = cond_both {A = FastChoice} (is_fast shape (present table)) (Fast best) (Slow best) (λ choice. choice ≡ Fast top → top.0 < STAMP_LIMIT)
+    (λ t e. let same : best ≡ top = cc in subst (λ (n : Stamp). n.0 < STAMP_LIMIT) same (greatest_low table low))
     (λ f e. absurd cc)
   where
     best : Stamp
     best = record { 0 = greatest (present table) }
 
-slow_top_low : (shape : Shape) (table : List (Option ℕ)) (top : Stamp) → AreLow table → fast_choice shape (present table) ≡ Slow top → top.0 < LIMIT
+slow_top_low : (shape : Shape) (table : List (Option ℕ)) (top : Stamp) → AreLow table → fast_choice shape (present table) ≡ Slow top → top.0 < STAMP_LIMIT
 unfolding fast_choice
-slow_top_low shape table top low = cond_both {A = FastChoice} (is_fast shape (present table)) (Fast best) (Slow best) (λ choice. choice ≡ Slow top → top.0 < LIMIT)
+slow_top_low shape table top low = cond_both {A = FastChoice} (is_fast shape (present table)) (Fast best) (Slow best) (λ choice. choice ≡ Slow top → top.0 < STAMP_LIMIT)
     (λ t e. absurd cc)
-    (λ f e. let same : best ≡ top = cc in subst (λ (n : Stamp). n.0 < LIMIT) same (greatest_low table low))
+    (λ f e. let same : best ≡ top = cc in subst (λ (n : Stamp). n.0 < STAMP_LIMIT) same (greatest_low table low))
   where
     best : Stamp
     best = record { 0 = greatest (present table) }
@@ -98,22 +99,22 @@ module _ (shape : Shape) (me : Site) (rank t : ℕ) (id : CommandId) (s : Proces
   abbrev best : FastChoice
   best = fast_choice shape (present acked.acknowledged)
 
-  pub counted_fast : (top : Stamp) → choice_by rank t (site_sheet shape me sheet) ≡ Some (Fast top)
+  pub counted_fast : (top : Stamp) → choice_after_ack rank t (site_sheet shape me sheet) ≡ Some (Fast top)
       → (counted shape me rank id t s ≡ decided shape me id top.0 acked s)
       × (with_acknowledgement rank t (site_sheet shape me sheet) ≡ site_sheet shape me acked)
-      × (IsLow shape acked → top.0 < LIMIT)
+      × (IsLow shape acked → top.0 < STAMP_LIMIT)
   counted_fast top e =
       let all = fast_if shape me id sheet acked s (is_between rank shape.replicas) can (is_full shape acked) best top within e in
       (all.0, ap (λ (kept : Sheet). site_sheet shape me kept) all.1, λ low. top_low shape acked.acknowledged top low.acknowledged all.2)
 
-  pub counted_slow : (top : Stamp) → choice_by rank t (site_sheet shape me sheet) ≡ Some (Slow top)
+  pub counted_slow : (top : Stamp) → choice_after_ack rank t (site_sheet shape me sheet) ≡ Some (Slow top)
       → (counted shape me rank id t s ≡ (with_sheet id (putting shape me.rank.0 top.0 acked) s, put_to_vote shape me me.rank.0 top.0 acked.command))
       × (with_acknowledgement rank t (site_sheet shape me sheet) ≡ site_sheet shape me (putting shape me.rank.0 top.0 acked))
-      × (IsLow shape acked → top.0 < LIMIT)
+      × (IsLow shape acked → top.0 < STAMP_LIMIT)
   counted_slow top e =
       let all = slow_if shape me id sheet acked s (is_between rank shape.replicas) can (is_full shape acked) best top within e in
       (all.0, ap (λ (kept : Sheet). site_sheet shape me kept) all.1, λ low. slow_top_low shape acked.acknowledged top low.acknowledged all.2)
 
-  pub counted_none : choice_by rank t (site_sheet shape me sheet) ≡ None
+  pub counted_none : choice_after_ack rank t (site_sheet shape me sheet) ≡ None
       → Quiet shape me id sheet acked s (counted shape me rank id t s) (with_acknowledgement rank t (site_sheet shape me sheet)).sheet
   counted_none e = quiet_if shape me id sheet acked s (is_between rank shape.replicas) can (is_full shape acked) best within e

@@ -4,6 +4,7 @@ use Rattle.std.specs.Prelude.{unwrap_or}
 use Rattle.std.proofs.lemmas.Bool.{cond-true}
 use Rattle.indexmap.specs.IndexMap.{IndexMap, get}
 use Rattle.tp_base.proofs.SameNames.{same_id_is, same_id_refl}
+use Rattle.tp_base.specs.Limits.{STAMP_LIMIT}
 use Rattle.tp_base.specs.Names.{same_id}
 use Rattle.tp_base.specs.declared.names.CommandId.{CommandId}
 use Rattle.tp_base.specs.declared.names.Pair.{Pair}
@@ -13,9 +14,9 @@ use Rattle.tp_ops.specs.Parts.{is_accessed}
 use Rattle.tp_process.proofs.LowStamps.{blank_low, final_low, with_stamp_low}
 use Rattle.tp_process.specs.Sheets.{ChangesSheet, sheet_at}
 use Rattle.tp_process.specs.State.{Agrees, IsLow, committed, site_sheet}
-use Rattle.tp_rules.specs.Process.{LIMIT, Moved, ProcessState, bumped, finished, learned, on_commit, start, with_sheet}
-use Rattle.tp_rules.specs.Sheet.{Sheet, final_stamp, kept, ring_rule, stamp_of, with_stamp}
-use Rattle.tp_sheet.specs.SiteSheet.{SiteSheet, blank_at, final_by, with_known}
+use Rattle.tp_rules.specs.Process.{Step, ProcessState, bumped, finished, learned, on_commit, start, with_sheet}
+use Rattle.tp_rules.specs.Sheet.{Sheet, final_stamp, with_command, ring_rule, stamp_of, with_stamp}
+use Rattle.tp_sheet.specs.SiteSheet.{SiteSheet, blank_at, final_after_learning, with_known}
 use Rattle.tp_topology.specs.Shape.{Shape}
 
 module _ {S : Type 0} (shape : Shape) (site : Site) (clock told : ℕ) (pairs : List Pair) (sheets : IndexMap CommandId SiteSheet S) where
@@ -89,14 +90,14 @@ module _ {S : Type 0} (shape : Shape) (site : Site) (clock told : ℕ) (pairs : 
 abbrev pub known_sheet : ℕ → ℕ → Sheet → Sheet
 known_sheet q t sheet = cond (is_some (stamp_of sheet q)) sheet (with_stamp q t sheet)
 
-pub known_low : {shape : Shape} (q t : ℕ) (sheet : Sheet) → t < LIMIT → IsLow shape sheet → IsLow shape (known_sheet q t sheet)
+pub known_low : {shape : Shape} (q t : ℕ) (sheet : Sheet) → t < STAMP_LIMIT → IsLow shape sheet → IsLow shape (known_sheet q t sheet)
 known_low {shape} q t sheet lt h = go (is_some (stamp_of sheet q))
   where
     go : (b : Bool) → IsLow shape (cond b sheet (with_stamp q t sheet))
     go true = h
     go false = with_stamp_low q t sheet lt h
 
-abbrev finishing : Shape → Site → CommandId → Sheet → ProcessState → Moved
+abbrev finishing : Shape → Site → CommandId → Sheet → ProcessState → Step
 finishing shape site id known s = finished site id known known.command (final_stamp shape known known.command) s
 
 -- where no final stamp is known
@@ -107,7 +108,7 @@ unfinished shape site id known (Some c) None s e = refl
 unfinished shape site id known (Some c) (Some t) s e = absurd cc
 
 pub learned_none : (shape : Shape) (site : Site) (id : CommandId) (q t : ℕ) (sheet : Sheet) (s : ProcessState)
-    → final_by q t (site_sheet shape site sheet) ≡ None
+    → final_after_learning q t (site_sheet shape site sheet) ≡ None
     → learned shape site id q t sheet s ≡ (with_sheet id (known_sheet q t sheet) s, [])
 learned_none shape site id q t sheet s e = go (is_some (stamp_of sheet q)) e
   where
@@ -115,7 +116,7 @@ learned_none shape site id q t sheet s e = go (is_some (stamp_of sheet q)) e
     known = with_stamp q t sheet
 
     go : (b : Bool) → cond b None (final_stamp shape (cond b sheet known) (cond b sheet known).command) ≡ None
-        → cond {A = Moved} b (with_sheet id sheet s, []) (finishing shape site id known s) ≡ (with_sheet id (cond b sheet known) s, [])
+        → cond {A = Step} b (with_sheet id sheet s, []) (finishing shape site id known s) ≡ (with_sheet id (cond b sheet known) s, [])
     go true e = refl
     go false e = unfinished shape site id known known.command (final_stamp shape known known.command) s e
 
@@ -126,7 +127,7 @@ finished_some shape site id known None n s e = absurd cc
 finished_some shape site id known (Some c) n s e = ap (λ (last : Option ℕ). finished site id known (Some c) last s) e
 
 pub learned_some : (shape : Shape) (site : Site) (id : CommandId) (q t n : ℕ) (sheet : Sheet) (s : ProcessState)
-    → final_by q t (site_sheet shape site sheet) ≡ Some n
+    → final_after_learning q t (site_sheet shape site sheet) ≡ Some n
     → learned shape site id q t sheet s ≡ (bumped n (with_sheet id (known_sheet q t sheet) s), committed site (known_sheet q t sheet).command n)
 learned_some shape site id q t n sheet s e = go (is_some (stamp_of sheet q)) e
   where
@@ -134,26 +135,26 @@ learned_some shape site id q t n sheet s e = go (is_some (stamp_of sheet q)) e
     known = with_stamp q t sheet
 
     go : (b : Bool) → cond b None (final_stamp shape (cond b sheet known) (cond b sheet known).command) ≡ Some n
-        → cond {A = Moved} b (with_sheet id sheet s, []) (finishing shape site id known s)
+        → cond {A = Step} b (with_sheet id sheet s, []) (finishing shape site id known s)
         ≡ (bumped n (with_sheet id (cond b sheet known) s), committed site (cond b sheet known).command n)
     go true e = absurd cc
     go false e = finished_some shape site id known known.command n s e
 
 -- the final stamp is below the limit
-pub final_by_low : (shape : Shape) (site : Site) (q t n : ℕ) (sheet : Sheet) → t < LIMIT → IsLow shape sheet → final_by q t (site_sheet shape site sheet) ≡ Some n → n < LIMIT
-final_by_low shape site q t n sheet lt h e = go (is_some (stamp_of sheet q)) e
+pub final_after_learning_low : (shape : Shape) (site : Site) (q t n : ℕ) (sheet : Sheet) → t < STAMP_LIMIT → IsLow shape sheet → final_after_learning q t (site_sheet shape site sheet) ≡ Some n → n < STAMP_LIMIT
+final_after_learning_low shape site q t n sheet lt h e = go (is_some (stamp_of sheet q)) e
   where
     known : Sheet
     known = with_stamp q t sheet
 
-    go : (b : Bool) → cond b None (final_stamp shape (cond b sheet known) (cond b sheet known).command) ≡ Some n → n < LIMIT
+    go : (b : Bool) → cond b None (final_stamp shape (cond b sheet known) (cond b sheet known).command) ≡ Some n → n < STAMP_LIMIT
     go true e = absurd cc
     go false e = final_low shape known known.command n (with_stamp_low q t sheet lt h) e
 
 module _ {S : Type 0} (shape : Shape) (site : Site) (clock told : ℕ) (pairs : List Pair) (sheets new : IndexMap CommandId SiteSheet S)
     (id : CommandId) (q t : ℕ) (sheet : Sheet) (s : ProcessState)
     (change : ChangesSheet shape site sheets new id (with_known q t (sheet_at shape site sheets id)))
-    (h : Agrees shape site clock told pairs sheets (with_sheet id sheet s)) (below : t < LIMIT) where
+    (h : Agrees shape site clock told pairs sheets (with_sheet id sheet s)) (below : t < STAMP_LIMIT) where
   here : sheet_at shape site sheets id ≡ site_sheet shape site sheet
   here = sheet_here shape site clock told pairs sheets id sheet s h
 
@@ -167,24 +168,24 @@ module _ {S : Type 0} (shape : Shape) (site : Site) (clock told : ℕ) (pairs : 
       (changed shape site clock told pairs sheets new id (with_known q t (sheet_at shape site sheets id)) (known_sheet q t sheet) (with_sheet id sheet s)
       change (ap (λ (kept : SiteSheet). with_known q t kept) here) (known_low q t sheet below low_here) h)
 
-  by_sheet : (o : Option ℕ) → final_by q t (sheet_at shape site sheets id) ≡ o → final_by q t (site_sheet shape site sheet) ≡ o
-  by_sheet o e = ap (λ (kept : SiteSheet). final_by q t kept) (sym here) ∙ e
+  by_sheet : (o : Option ℕ) → final_after_learning q t (sheet_at shape site sheets id) ≡ o → final_after_learning q t (site_sheet shape site sheet) ≡ o
+  by_sheet o e = ap (λ (kept : SiteSheet). final_after_learning q t kept) (sym here) ∙ e
 
-  pub learns_none : final_by q t (sheet_at shape site sheets id) ≡ None → Agrees shape site clock told pairs new (learned shape site id q t sheet s).0
-  learns_none e = subst (λ (m : Moved). Agrees shape site clock told pairs new m.0) (sym (learned_none shape site id q t sheet s (by_sheet None e))) knows
+  pub learns_none : final_after_learning q t (sheet_at shape site sheets id) ≡ None → Agrees shape site clock told pairs new (learned shape site id q t sheet s).0
+  learns_none e = subst (λ (m : Step). Agrees shape site clock told pairs new m.0) (sym (learned_none shape site id q t sheet s (by_sheet None e))) knows
 
-  pub learns_some : (n : ℕ) → final_by q t (sheet_at shape site sheets id) ≡ Some n
-      → (learned shape site id q t sheet s ≡ (bumped n (with_sheet id (known_sheet q t sheet) s), committed site (known_sheet q t sheet).command n)) × (n < LIMIT)
+  pub learns_some : (n : ℕ) → final_after_learning q t (sheet_at shape site sheets id) ≡ Some n
+      → (learned shape site id q t sheet s ≡ (bumped n (with_sheet id (known_sheet q t sheet) s), committed site (known_sheet q t sheet).command n)) × (n < STAMP_LIMIT)
   learns_some n e = (
     learned_some shape site id q t n sheet s (by_sheet (Some n) e),
-    final_by_low shape site q t n sheet below low_here (by_sheet (Some n) e),
+    final_after_learning_low shape site q t n sheet below low_here (by_sheet (Some n) e),
   )
 
 -- where the command accesses the partition
 pub commit_taken : (shape : Shape) (site : Site) (c : Command) (q t : ℕ) (s : ProcessState) → is_accessed shape.partitions c q ≡ true
-    → on_commit (ring_rule shape) site c q t s ≡ learned shape site c.id q t (kept c (s.sheets c.id)) s
+    → on_commit (ring_rule shape) site c q t s ≡ learned shape site c.id q t (with_command c (s.sheets c.id)) s
 commit_taken shape site c q t s e =
-    cond-true {A = Moved} (is_accessed shape.partitions c q) (learned shape site c.id q t (kept c (s.sheets c.id)) s) (s, []) e
+    cond-true {A = Step} (is_accessed shape.partitions c q) (learned shape site c.id q t (with_command c (s.sheets c.id)) s) (s, []) e
 
 -- a process starts with blank sheets
 pub starts : {S : Type 0} (shape : Shape) (site : Site) (none : List Pair) (sheets : IndexMap CommandId SiteSheet S) → none ≡ []

@@ -5,6 +5,7 @@ use Rattle.std.specs.List.{list_all, list_any}
 use Rattle.std.proofs.lemmas.Bool.{and_parts, cond_both}
 use Rattle.std.proofs.lemmas.Option.{cond_some}
 use Rattle.tp_base.proofs.Each.{each_weaker}
+use Rattle.tp_base.specs.Limits.{STAMP_LIMIT}
 use Rattle.tp_base.specs.Lists.{Each}
 use Rattle.tp_base.specs.declared.names.Made.{Made}
 use Rattle.tp_choice.specs.Choosing.{best_from, chosen_of_proposals, chosen_with, greatest_by, member_stamp, recovery_choice, tells_slow}
@@ -17,30 +18,29 @@ use Rattle.tp_rules.proofs.FitChoices.{best_fit, greatest_by_low}
 use Rattle.tp_rules.proofs.FitStamps.{with_fit}
 use Rattle.tp_rules.proofs.Selections.{IfAny, each_replicate}
 use Rattle.tp_rules.specs.Addresses.{accessed, is_between, is_command_at}
-use Rattle.tp_rules.specs.Process.{LIMIT}
-use Rattle.tp_rules.specs.Sheet.{Sheet, acknowledged, blank, final_stamp, kept, putting, stamps_of, trying, with_accepted, with_answer, with_ballot, with_proposal, with_stamp, with_vote}
+use Rattle.tp_rules.specs.Sheet.{Sheet, acknowledged, blank, final_stamp, with_command, putting, stamps_of, trying, with_accepted, with_answer, with_ballot, with_proposal, with_stamp, with_vote}
 use Rattle.tp_rules.specs.Tables.{flat, kept_at, with_nth}
 use Rattle.tp_topology.specs.Shape.{Shape}
 
-low_set : (table : List (Option ℕ)) (i x : ℕ) → x < LIMIT → AreLow table → AreLow (set table i (Some x))
+low_set : (table : List (Option ℕ)) (i x : ℕ) → x < STAMP_LIMIT → AreLow table → AreLow (set table i (Some x))
 low_set [] i x lt h = tt
 low_set (None ∷ table) zero x lt h = (lt, h)
 low_set (Some t ∷ table) zero x lt h = (lt, h.1)
 low_set (None ∷ table) (suc i) x lt h = low_set table i x lt h
 low_set (Some t ∷ table) (suc i) x lt h = (h.0, low_set table i x lt h.1)
 
-low_nth : (table : List (Option ℕ)) (place x : ℕ) → x < LIMIT → AreLow table → AreLow (with_nth table place (Some x))
+low_nth : (table : List (Option ℕ)) (place x : ℕ) → x < STAMP_LIMIT → AreLow table → AreLow (with_nth table place (Some x))
 low_nth table zero x lt h = h
 low_nth table (suc i) x lt h = low_set table i x lt h
 
-low_got : (table : List (Option ℕ)) (i n : ℕ) → AreLow table → flat (slice_get table i) ≡ Some n → n < LIMIT
+low_got : (table : List (Option ℕ)) (i n : ℕ) → AreLow table → flat (slice_get table i) ≡ Some n → n < STAMP_LIMIT
 low_got [] i n h e = absurd cc
 low_got (None ∷ table) zero n h e = absurd cc
-low_got (Some t ∷ table) zero n h e = let same : t ≡ n = cc in subst (λ (m : ℕ). m < LIMIT) same h.0
+low_got (Some t ∷ table) zero n h e = let same : t ≡ n = cc in subst (λ (m : ℕ). m < STAMP_LIMIT) same h.0
 low_got (None ∷ table) (suc i) n h e = low_got table i n h e
 low_got (Some t ∷ table) (suc i) n h e = low_got table i n h.1 e
 
-low_kept : (table : List (Option ℕ)) (place n : ℕ) → AreLow table → kept_at table place ≡ Some n → n < LIMIT
+low_kept : (table : List (Option ℕ)) (place n : ℕ) → AreLow table → kept_at table place ≡ Some n → n < STAMP_LIMIT
 low_kept table zero n h e = absurd cc
 low_kept table (suc i) n h e = low_got table i n h e
 
@@ -59,23 +59,23 @@ low_none (suc n) = low_none n
 pub max_cases : (m n : ℕ) → (max m n ≡ m) ⊎ (max m n ≡ n)
 max_cases m n = grind arith
 
-max_low : (m n : ℕ) → m < LIMIT → n < LIMIT → max m n < LIMIT
+max_low : (m n : ℕ) → m < STAMP_LIMIT → n < STAMP_LIMIT → max m n < STAMP_LIMIT
 max_low m n p q = elim (max_cases m n) [
-  | inl e ↦ subst (λ (k : ℕ). k < LIMIT) (sym e) p
-  | inr e ↦ subst (λ (k : ℕ). k < LIMIT) (sym e) q
+  | inl e ↦ subst (λ (k : ℕ). k < STAMP_LIMIT) (sym e) p
+  | inr e ↦ subst (λ (k : ℕ). k < STAMP_LIMIT) (sym e) q
 ]
 
-pub greatest_low : (table : List (Option ℕ)) → AreLow table → greatest (present table) < LIMIT
+pub greatest_low : (table : List (Option ℕ)) → AreLow table → greatest (present table) < STAMP_LIMIT
 greatest_low [] h = omega arith
 greatest_low (None ∷ table) h = greatest_low table h
 greatest_low (Some t ∷ table) h = max_low t (greatest (present table)) h.0 (greatest_low table h.1)
 
 -- the final stamp is below the limit
-pub final_low : (shape : Shape) (sheet : Sheet) (o : Option Command) (n : ℕ) → IsLow shape sheet → final_stamp shape sheet o ≡ Some n → n < LIMIT
+pub final_low : (shape : Shape) (sheet : Sheet) (o : Option Command) (n : ℕ) → IsLow shape sheet → final_stamp shape sheet o ≡ Some n → n < STAMP_LIMIT
 final_low shape sheet None n h e = absurd cc
 final_low shape sheet (Some c) n h e =
     let stamps = stamps_of shape sheet c in
-    subst (λ (m : ℕ). m < LIMIT) (cond_some (list_all is_some stamps) (greatest (present stamps)) n e).1
+    subst (λ (m : ℕ). m < STAMP_LIMIT) (cond_some (list_all is_some stamps) (greatest (present stamps)) n e).1
     (greatest_low stamps (low_map sheet.known (accessed shape c) h.known))
 
 pub blank_low : (shape : Shape) → IsLow shape (blank shape)
@@ -93,7 +93,7 @@ kept_homed shape c None here h = here
 kept_homed shape c (Some d) here h = h
 
 -- a command with its home in the shape, on a partition
-pub kept_low : {shape : Shape} (p : ℕ) (c : Command) (sheet : Sheet) → is_command_at shape p c ≡ true → IsLow shape sheet → IsLow shape (kept c sheet)
+pub kept_low : {shape : Shape} (p : ℕ) (c : Command) (sheet : Sheet) → is_command_at shape p c ≡ true → IsLow shape sheet → IsLow shape (with_command c sheet)
 kept_low {shape} p c sheet here h = record {
   home = kept_homed shape c sheet.command (and_parts (is_between c.home.0 shape.replicas) (is_accessed shape.partitions c p) here).0 h.home;
   known = h.known;
@@ -102,7 +102,7 @@ kept_low {shape} p c sheet here h = record {
   answers = h.answers;
 }
 
-pub with_stamp_low : {shape : Shape} (q t : ℕ) (sheet : Sheet) → t < LIMIT → IsLow shape sheet → IsLow shape (with_stamp q t sheet)
+pub with_stamp_low : {shape : Shape} (q t : ℕ) (sheet : Sheet) → t < STAMP_LIMIT → IsLow shape sheet → IsLow shape (with_stamp q t sheet)
 with_stamp_low q t sheet lt h = record {
   home = h.home;
   known = low_nth sheet.known q t lt h.known;
@@ -111,7 +111,7 @@ with_stamp_low q t sheet lt h = record {
   answers = h.answers;
 }
 
-pub acknowledged_low : {shape : Shape} (rank t : ℕ) (sheet : Sheet) → t < LIMIT → IsLow shape sheet → IsLow shape (acknowledged rank t sheet)
+pub acknowledged_low : {shape : Shape} (rank t : ℕ) (sheet : Sheet) → t < STAMP_LIMIT → IsLow shape sheet → IsLow shape (acknowledged rank t sheet)
 acknowledged_low rank t sheet lt h = record {
   home = h.home;
   known = h.known;
@@ -120,7 +120,7 @@ acknowledged_low rank t sheet lt h = record {
   answers = h.answers;
 }
 
-pub putting_low : (shape : Shape) (b t : ℕ) (sheet : Sheet) → t < LIMIT → IsLow shape sheet → IsLow shape (putting shape b t sheet)
+pub putting_low : (shape : Shape) (b t : ℕ) (sheet : Sheet) → t < STAMP_LIMIT → IsLow shape sheet → IsLow shape (putting shape b t sheet)
 putting_low shape b t sheet lt h =
     record { home = h.home; known = h.known; acknowledged = h.acknowledged; put = lt; answers = h.answers }
 
@@ -149,7 +149,7 @@ trying_low shape b sheet h = record {
   answers = each_replicate IsLowAnswer shape.replicas None tt;
 }
 
-pub with_answer_low : {shape : Shape} (a : RecoveryAnswer) (sheet : Sheet) → a.stamp.0 < LIMIT → IsLow shape sheet → IsLow shape (with_answer a sheet)
+pub with_answer_low : {shape : Shape} (a : RecoveryAnswer) (sheet : Sheet) → a.stamp.0 < STAMP_LIMIT → IsLow shape sheet → IsLow shape (with_answer a sheet)
 with_answer_low a sheet lt h = record {
   home = h.home;
   known = h.known;
@@ -161,35 +161,35 @@ with_answer_low a sheet lt h = record {
 -- what is chosen from answers
 
 abbrev IsLowStamp : RecoveryAnswer → Type 0
-IsLowStamp a = a.stamp.0 < LIMIT
+IsLowStamp a = a.stamp.0 < STAMP_LIMIT
 
 present_low : (table : List (Option RecoveryAnswer)) → Each IsLowAnswer table → Each IsLowStamp (present table)
 present_low [] h = tt
 present_low (None ∷ table) h = present_low table h.1
 present_low (Some a ∷ table) h = (h.0, present_low table h.1)
 
-member_low : (in_quorum : ℕ → Bool) (a : RecoveryAnswer) → IsLowStamp a → member_stamp in_quorum a ≤ LIMIT - 1
+member_low : (in_quorum : ℕ → Bool) (a : RecoveryAnswer) → IsLowStamp a → member_stamp in_quorum a ≤ STAMP_LIMIT - 1
 member_low in_quorum a lt =
-    cond_both (in_quorum a.rank.0) a.stamp.0 0 (λ (n : ℕ). n ≤ LIMIT - 1) (λ t. omega (arith, lt)) (λ f. omega arith)
+    cond_both (in_quorum a.rank.0) a.stamp.0 0 (λ (n : ℕ). n ≤ STAMP_LIMIT - 1) (λ t. omega (arith, lt)) (λ f. omega arith)
 
-proposals_low : (in_quorum : ℕ → Bool) (home : ℕ) (answers : List RecoveryAnswer) → Each IsLowStamp answers → chosen_of_proposals in_quorum home answers < LIMIT
+proposals_low : (in_quorum : ℕ → Bool) (home : ℕ) (answers : List RecoveryAnswer) → Each IsLowStamp answers → chosen_of_proposals in_quorum home answers < STAMP_LIMIT
 proposals_low in_quorum home answers h =
-    let all : greatest_by (λ a. a.stamp.0) answers ≤ LIMIT - 1 = greatest_by_low (λ a. a.stamp.0) answers (LIMIT - 1)
-    (each_weaker IsLowStamp (λ a. a.stamp.0 ≤ LIMIT - 1) (λ a lt. omega (arith, lt)) answers h) in
-    let members : greatest_by (member_stamp in_quorum) answers ≤ LIMIT - 1 = greatest_by_low (member_stamp in_quorum) answers (LIMIT - 1)
-    (each_weaker IsLowStamp (λ a. member_stamp in_quorum a ≤ LIMIT - 1) (λ a lt. member_low in_quorum a lt) answers h) in
+    let all : greatest_by (λ a. a.stamp.0) answers ≤ STAMP_LIMIT - 1 = greatest_by_low (λ a. a.stamp.0) answers (STAMP_LIMIT - 1)
+    (each_weaker IsLowStamp (λ a. a.stamp.0 ≤ STAMP_LIMIT - 1) (λ a lt. omega (arith, lt)) answers h) in
+    let members : greatest_by (member_stamp in_quorum) answers ≤ STAMP_LIMIT - 1 = greatest_by_low (member_stamp in_quorum) answers (STAMP_LIMIT - 1)
+    (each_weaker IsLowStamp (λ a. member_stamp in_quorum a ≤ STAMP_LIMIT - 1) (λ a lt. member_low in_quorum a lt) answers h) in
     cond_both (list_any (tells_slow in_quorum home) answers) (greatest_by (λ a. a.stamp.0) answers) (greatest_by (member_stamp in_quorum) answers)
-    (λ (n : ℕ). n < LIMIT) (λ t. omega (arith, all)) (λ f. omega (arith, members))
+    (λ (n : ℕ). n < STAMP_LIMIT) (λ t. omega (arith, all)) (λ f. omega (arith, members))
 
 chosen_low : (in_quorum : ℕ → Bool) (home : ℕ) (answers : List RecoveryAnswer) (best : Option RecoveryAnswer) → Each IsLowStamp answers → IfAny IsLowStamp best
-    → chosen_with in_quorum home answers best < LIMIT
+    → chosen_with in_quorum home answers best < STAMP_LIMIT
 chosen_low in_quorum home answers None h low = proposals_low in_quorum home answers h
 chosen_low in_quorum home answers (Some best) h low =
-    cond_both (nat_lt 0 best.accepted) best.stamp.0 (chosen_of_proposals in_quorum home answers) (λ (n : ℕ). n < LIMIT)
+    cond_both (nat_lt 0 best.accepted) best.stamp.0 (chosen_of_proposals in_quorum home answers) (λ (n : ℕ). n < STAMP_LIMIT)
     (λ t. low) (λ f. proposals_low in_quorum home answers h)
 
 pub recovery_low : (in_quorum : ℕ → Bool) (home : ℕ) (table : List (Option RecoveryAnswer)) → Each IsLowAnswer table
-    → recovery_choice in_quorum home (present table) < LIMIT
+    → recovery_choice in_quorum home (present table) < STAMP_LIMIT
 unfolding recovery_choice
 recovery_low in_quorum home table h =
     let low : Each IsLowStamp (present table) = present_low table h in

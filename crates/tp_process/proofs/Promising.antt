@@ -5,12 +5,13 @@ use Rattle.std.proofs.lemmas.List.{reverse-append}
 use Rattle.std.specs.Prelude.{filter, nat_lt, reverse}
 use Rattle.indexmap.specs.IndexMap.{IndexMap}
 use Rattle.tp_base.proofs.Each.{each_weaker}
+use Rattle.tp_base.specs.Limits.{STAMP_LIMIT}
 use Rattle.tp_base.specs.Lists.{Each}
 use Rattle.tp_base.specs.declared.names.CommandId.{CommandId}
 use Rattle.tp_base.specs.declared.names.Pair.{Pair}
 use Rattle.tp_base.specs.declared.names.Site.{Site}
 use Rattle.tp_process.specs.State.{Agrees, all_told}
-use Rattle.tp_rules.specs.Process.{LIMIT, ProcessState, proposing, with_sheet}
+use Rattle.tp_rules.specs.Process.{ProcessState, proposing, with_sheet}
 use Rattle.tp_rules.specs.Sheet.{Sheet}
 use Rattle.tp_sheet.specs.SiteSheet.{SiteSheet}
 use Rattle.tp_topology.specs.Shape.{Shape}
@@ -39,7 +40,7 @@ none_above told (pair ∷ pairs) h =
 module _ {S : Type 0} (shape : Shape) (site : Site) (clock told : ℕ) (pairs : List Pair) (sheets : IndexMap CommandId SiteSheet S) where
   -- one more promise is attached to a command
   pub promised : (id : CommandId) (t : ℕ) (new : List Pair) (s : ProcessState) (sheet : Sheet) → new ≡ pairs ++ pair_of id t ∷ []
-      → Agrees shape site clock told pairs sheets (with_sheet id sheet s) → s.clock < t → t < LIMIT
+      → Agrees shape site clock told pairs sheets (with_sheet id sheet s) → s.clock < t → t < STAMP_LIMIT
       → Agrees shape site t told new sheets (proposing id t sheet s)
   promised id t new s sheet more h later low = record {
     clock_is = refl;

@@ -4,7 +4,8 @@ use Rattle.std.proofs.lemmas.Bool.{and_parts, cond-true, cond-false, eqb-true, l
 use Rattle.std.proofs.lemmas.Option.{cond_some}
 use Rattle.std.specs.Prelude.{◌==◌, is_none, nat_lt}
 use Rattle.indexmap.specs.IndexMap.{IndexMap}
-use Rattle.tp_base.specs.Promises.{proposed as proposed_stamp}
+use Rattle.tp_base.specs.Limits.{STAMP_LIMIT}
+use Rattle.tp_base.specs.Promises.{proposed_stamp}
 use Rattle.tp_base.specs.declared.names.ActorName.{ActorName}
 use Rattle.tp_base.specs.declared.names.CommandId.{CommandId}
 use Rattle.tp_base.specs.declared.names.Made.TheVariants.{Recovery}
@@ -18,8 +19,8 @@ use Rattle.tp_process.proofs.Proposing.{later, same_room, stamp_low}
 use Rattle.tp_process.specs.Sheets.{ChangesSheet, sheet_at}
 use Rattle.tp_process.specs.State.{Agrees, agreed_above, answer_with, site_sheet}
 use Rattle.tp_rules.specs.Addresses.{is_command_at}
-use Rattle.tp_rules.specs.Process.{LIMIT, Moved, ProcessState, agreed, answer, has_next, joined, next_stamp, on_rec, on_rec_by, on_recover, proposed_late, recovering, told as told_to, with_room, with_sheet}
-use Rattle.tp_rules.specs.Sheet.{Sheet, is_fresh, is_untouched, kept, ring_rule, stamp_of, trying, with_ballot, with_proposal}
+use Rattle.tp_rules.specs.Process.{Step, ProcessState, answer_with_old_proposal, answer, has_next, answer_recovery, next_stamp, on_rec, on_rec_by_stamp, on_recover, propose_and_answer, recovering, commit_reply, with_room, with_sheet}
+use Rattle.tp_rules.specs.Sheet.{Sheet, is_fresh, is_untouched, with_command, ring_rule, stamp_of, trying, with_ballot, with_proposal}
 use Rattle.tp_sheet.specs.SiteSheet.{SiteSheet, answer_of, ballot_by, promise_by, trying_at, with_promise, with_sheet as keeping, with_try}
 use Rattle.tp_topology.specs.Ballots.{next_ballot}
 use Rattle.tp_topology.specs.Shape.{Shape}
@@ -30,8 +31,8 @@ module _ (shape : Shape) (me : Site) (id : CommandId) (next : ℕ) (sheet : Shee
   abbrev ballot_if : Bool → Option ℕ
   ballot_if can = cond can (Some next) None
 
-  abbrev row_if : Bool → Moved
-  row_if can = cond {A = Moved} can (recovering shape me id next sheet s) (s, [])
+  abbrev row_if : Bool → Step
+  row_if can = cond {A = Step} can (recovering shape me id next sheet s) (s, [])
 
   some_if : (can : Bool) (b : ℕ) → ballot_if can ≡ Some b
       → (row_if can ≡ recovering shape me id b sheet s) × (trying_at shape (ballot_if can) sheet ≡ trying shape b sheet)
@@ -83,7 +84,7 @@ module _ {S : Type 0} (shape : Shape) (me : Site) (clock told : ℕ) (pairs : Li
 -- what is told to a recovery
 
 -- a ballot that no recovery tries is not taken
-untried : (own b : ℕ) → (nat_lt 0 b && nat_lt b LIMIT) ≡ false → (nat_lt own b && nat_lt b LIMIT) ≡ false
+untried : (own b : ℕ) → (nat_lt 0 b && nat_lt b STAMP_LIMIT) ≡ false → (nat_lt own b && nat_lt b STAMP_LIMIT) ≡ false
 untried own b e = grind arith
 
 -- a sheet without the partition's stamp is fresh just where it is untouched
@@ -91,17 +92,17 @@ pub fresh_is : (p : ℕ) (sheet : Sheet) (t : Bool) → stamp_of sheet p ≡ Non
 fresh_is p sheet t unknown e = grind (arith, unknown, e)
 
 -- an untouched sheet agreed to no ballot
-pub untouched_below : (sheet : Sheet) (b : ℕ) → is_untouched sheet ≡ true → (nat_lt 0 b && nat_lt b LIMIT) ≡ true
-    → (nat_lt sheet.ballot b ≡ true) × ((nat_lt sheet.ballot b && nat_lt b LIMIT) ≡ true)
+pub untouched_below : (sheet : Sheet) (b : ℕ) → is_untouched sheet ≡ true → (nat_lt 0 b && nat_lt b STAMP_LIMIT) ≡ true
+    → (nat_lt sheet.ballot b ≡ true) × ((nat_lt sheet.ballot b && nat_lt b STAMP_LIMIT) ≡ true)
 untouched_below sheet b untouched tried =
     let none : sheet.ballot ≡ 0 = eqb-true sheet.ballot 0 (and_parts (is_none sheet.proposal) (sheet.ballot == 0) untouched).1 in
-    let both = and_parts (nat_lt 0 b) (nat_lt b LIMIT) tried in (
+    let both = and_parts (nat_lt 0 b) (nat_lt b STAMP_LIMIT) tried in (
       ap (λ (n : ℕ). nat_lt n b) none ∙ both.0,
-      ap (λ (n : ℕ). nat_lt n b && nat_lt b LIMIT) none ∙ tried,
+      ap (λ (n : ℕ). nat_lt n b && nat_lt b STAMP_LIMIT) none ∙ tried,
     )
 
 abbrev pub proposed_at : ℕ → Command → SiteSheet → SiteSheet
-proposed_at t k old = keeping (with_proposal t Recovery (kept k old.sheet)) old
+proposed_at t k old = keeping (with_proposal t Recovery (with_command k old.sheet)) old
 
 promises : (b : ℕ) (x : SiteSheet) → nat_lt x.sheet.ballot b ≡ true → with_promise b x ≡ keeping (with_ballot b x.sheet) x
 promises b x above = ap (λ (a : Bool). keeping (cond a (with_ballot b x.sheet) x.sheet) x) above
@@ -117,112 +118,112 @@ module _ {S : Type 0} (shape : Shape) (site : Site) (clock told : ℕ) (pairs : 
   abbrev sheet : Sheet
   sheet = s.sheets c.id
 
-  has_room : (moved : Moved) → moved.0.clock ≡ s.clock → with_room s moved ≡ moved
+  has_room : (moved : Step) → moved.0.clock ≡ s.clock → with_room s moved ≡ moved
   has_room moved same =
-      cond-true {A = Moved} (nat_lt moved.0.clock LIMIT) moved (s, []) (lt-ltb moved.0.clock LIMIT (subst (λ (n : ℕ). n < LIMIT) (sym same) h.room))
+      cond-true {A = Step} (nat_lt moved.0.clock STAMP_LIMIT) moved (s, []) (lt-ltb moved.0.clock STAMP_LIMIT (subst (λ (n : ℕ). n < STAMP_LIMIT) (sym same) h.room))
 
   -- by whether the partition's stamp is known
   by_stamp : (from : ActorName) (b : ℕ) (o : Option ℕ) → stamp_of (sheet_at shape site sheets c.id).sheet site.partition.0 ≡ o
-      → with_room s (on_rec (ring_rule shape) site from c b s) ≡ with_room s (on_rec_by (ring_rule shape) site from c b o s)
+      → with_room s (on_rec (ring_rule shape) site from c b s) ≡ with_room s (on_rec_by_stamp (ring_rule shape) site from c b o s)
   by_stamp from b o e =
-      ap (λ (known : Option ℕ). with_room s (on_rec_by (ring_rule shape) site from c b known s))
+      ap (λ (known : Option ℕ). with_room s (on_rec_by_stamp (ring_rule shape) site from c b known s))
       (ap (λ (kept : SiteSheet). stamp_of kept.sheet site.partition.0) (sym (h.sheets_are c.id)) ∙ e)
 
   pub rec_known : (from : ActorName) (b t : ℕ) → stamp_of (sheet_at shape site sheets c.id).sheet site.partition.0 ≡ Some t
-      → with_room s (on_rec (ring_rule shape) site from c b s) ≡ (s, told_to site from sheet.command t)
-  rec_known from b t e = by_stamp from b (Some t) e ∙ has_room (s, told_to site from sheet.command t) refl
+      → with_room s (on_rec (ring_rule shape) site from c b s) ≡ (s, commit_reply site from sheet.command t)
+  rec_known from b t e = by_stamp from b (Some t) e ∙ has_room (s, commit_reply site from sheet.command t) refl
 
   pub rec_unknown : (from : ActorName) (b : ℕ) → stamp_of (sheet_at shape site sheets c.id).sheet site.partition.0 ≡ None
-      → with_room s (on_rec (ring_rule shape) site from c b s) ≡ with_room s (on_rec_by (ring_rule shape) site from c b None s)
+      → with_room s (on_rec (ring_rule shape) site from c b s) ≡ with_room s (on_rec_by_stamp (ring_rule shape) site from c b None s)
   rec_unknown from b e = by_stamp from b None e
 
   -- whether the process answers at a ballot, by its fields and by the state
   abbrev takes : ℕ → Bool
-  takes b = nat_lt (sheet_at shape site sheets c.id).sheet.ballot b && nat_lt b LIMIT
+  takes b = nat_lt (sheet_at shape site sheets c.id).sheet.ballot b && nat_lt b STAMP_LIMIT
 
   abbrev takes_in : ℕ → Bool
-  takes_in b = nat_lt sheet.ballot b && nat_lt b LIMIT
+  takes_in b = nat_lt sheet.ballot b && nat_lt b STAMP_LIMIT
 
   same_test : (b : ℕ) → takes_in b ≡ takes b
-  same_test b = sym (ap (λ (kept : SiteSheet). nat_lt kept.sheet.ballot b && nat_lt b LIMIT) (h.sheets_are c.id))
+  same_test b = sym (ap (λ (kept : SiteSheet). nat_lt kept.sheet.ballot b && nat_lt b STAMP_LIMIT) (h.sheets_are c.id))
 
-  abbrev joining : ActorName → ℕ → Moved
-  joining from b = joined (ring_rule shape) site from c b sheet s
+  abbrev joining : ActorName → ℕ → Step
+  joining from b = answer_recovery (ring_rule shape) site from c b sheet s
 
-  join_refused : (from : ActorName) (b : ℕ) → takes b ≡ false → with_room s (on_rec_by (ring_rule shape) site from c b None s) ≡ (s, [])
+  join_refused : (from : ActorName) (b : ℕ) → takes b ≡ false → with_room s (on_rec_by_stamp (ring_rule shape) site from c b None s) ≡ (s, [])
   join_refused from b e =
-      ap (λ (moved : Moved). with_room s moved) (cond-false {A = Moved} (takes_in b) (joining from b) (s, []) (same_test b ∙ e))
+      ap (λ (moved : Step). with_room s moved) (cond-false {A = Step} (takes_in b) (joining from b) (s, []) (same_test b ∙ e))
       ∙ has_room (s, []) refl
 
-  pub join_untried : (from : ActorName) (b : ℕ) → (nat_lt 0 b && nat_lt b LIMIT) ≡ false
-      → with_room s (on_rec_by (ring_rule shape) site from c b None s) ≡ (s, [])
+  pub join_untried : (from : ActorName) (b : ℕ) → (nat_lt 0 b && nat_lt b STAMP_LIMIT) ≡ false
+      → with_room s (on_rec_by_stamp (ring_rule shape) site from c b None s) ≡ (s, [])
   join_untried from b e = join_refused from b (untried (sheet_at shape site sheets c.id).sheet.ballot b e)
 
   join_taken : (from : ActorName) (b : ℕ) → takes b ≡ true
-      → with_room s (on_rec_by (ring_rule shape) site from c b None s) ≡ with_room s (joining from b)
-  join_taken from b e = ap (λ (moved : Moved). with_room s moved) (cond-true {A = Moved} (takes_in b) (joining from b) (s, []) (same_test b ∙ e))
+      → with_room s (on_rec_by_stamp (ring_rule shape) site from c b None s) ≡ with_room s (joining from b)
+  join_taken from b e = ap (λ (moved : Step). with_room s moved) (cond-true {A = Step} (takes_in b) (joining from b) (s, []) (same_test b ∙ e))
 
   untouched_in : (t : Bool) → is_untouched (sheet_at shape site sheets c.id).sheet ≡ t → is_untouched sheet ≡ t
   untouched_in t e = sym (ap (λ (kept : SiteSheet). is_untouched kept.sheet) (h.sheets_are c.id)) ∙ e
 
-  abbrev late : ActorName → ℕ → Moved
-  late from b = proposed_late (ring_rule shape) site from c b (next_stamp 0 s) sheet s
+  abbrev late : ActorName → ℕ → Step
+  late from b = propose_and_answer (ring_rule shape) site from c b (next_stamp 0 s) sheet s
 
-  abbrev agreeing : ActorName → ℕ → Moved
-  agreeing from b = agreed site from c b sheet s
+  abbrev agreeing : ActorName → ℕ → Step
+  agreeing from b = answer_with_old_proposal site from c b sheet s
 
   -- where there is something to tell
-  pub join_agrees : (from : ActorName) (b : ℕ) → (nat_lt 0 b && nat_lt b LIMIT) ≡ true → is_untouched (sheet_at shape site sheets c.id).sheet ≡ false
-      → with_room s (on_rec_by (ring_rule shape) site from c b None s) ≡ agreed_above site from c b s
+  pub join_agrees : (from : ActorName) (b : ℕ) → (nat_lt 0 b && nat_lt b STAMP_LIMIT) ≡ true → is_untouched (sheet_at shape site sheets c.id).sheet ≡ false
+      → with_room s (on_rec_by_stamp (ring_rule shape) site from c b None s) ≡ agreed_above site from c b s
   join_agrees from b tried touched = go (nat_lt sheet.ballot b) refl
     where
-      low : nat_lt b LIMIT ≡ true
-      low = (and_parts (nat_lt 0 b) (nat_lt b LIMIT) tried).1
+      low : nat_lt b STAMP_LIMIT ≡ true
+      low = (and_parts (nat_lt 0 b) (nat_lt b STAMP_LIMIT) tried).1
 
       there : (above : Bool) → nat_lt sheet.ballot b ≡ above → takes b ≡ (above && true)
-      there above e = sym (same_test b) ∙ ap (λ (x : Bool). x && nat_lt b LIMIT) e ∙ ap (λ (x : Bool). above && x) low
+      there above e = sym (same_test b) ∙ ap (λ (x : Bool). x && nat_lt b STAMP_LIMIT) e ∙ ap (λ (x : Bool). above && x) low
 
       go : (above : Bool) → nat_lt sheet.ballot b ≡ above
-          → with_room s (on_rec_by (ring_rule shape) site from c b None s) ≡ cond {A = Moved} above (agreeing from b) (s, [])
+          → with_room s (on_rec_by_stamp (ring_rule shape) site from c b None s) ≡ cond {A = Step} above (agreeing from b) (s, [])
       go true e =
           join_taken from b (there true e)
-          ∙ ap (λ (moved : Moved). with_room s moved) (cond-false {A = Moved} (is_untouched sheet) (late from b) (agreeing from b) (untouched_in false touched))
+          ∙ ap (λ (moved : Step). with_room s moved) (cond-false {A = Step} (is_untouched sheet) (late from b) (agreeing from b) (untouched_in false touched))
           ∙ has_room (agreeing from b) refl
       go false e = join_refused from b (there false e)
 
   proposing_late : (from : ActorName) (b : ℕ) → takes b ≡ true → is_untouched (sheet_at shape site sheets c.id).sheet ≡ true
-      → with_room s (on_rec_by (ring_rule shape) site from c b None s) ≡ with_room s (late from b)
+      → with_room s (on_rec_by_stamp (ring_rule shape) site from c b None s) ≡ with_room s (late from b)
   proposing_late from b e untouched =
       join_taken from b e
-      ∙ ap (λ (moved : Moved). with_room s moved) (cond-true {A = Moved} (is_untouched sheet) (late from b) (agreeing from b) (untouched_in true untouched))
+      ∙ ap (λ (moved : Step). with_room s moved) (cond-true {A = Step} (is_untouched sheet) (late from b) (agreeing from b) (untouched_in true untouched))
 
-  room_is : (r : Bool) → nat_lt clock (LIMIT - 1) ≡ r → nat_lt (next_stamp 0 s) LIMIT ≡ r
-  room_is r e = same_room 0 s.clock (omega arith) ∙ ap (λ (n : ℕ). nat_lt n (LIMIT - 1)) (sym h.clock_is) ∙ e
+  room_is : (r : Bool) → nat_lt clock (STAMP_LIMIT - 1) ≡ r → nat_lt (next_stamp 0 s) STAMP_LIMIT ≡ r
+  room_is r e = same_room 0 s.clock (omega arith) ∙ ap (λ (n : ℕ). nat_lt n (STAMP_LIMIT - 1)) (sym h.clock_is) ∙ e
 
   pub join_full : (from : ActorName) (b : ℕ) → takes b ≡ true → is_untouched (sheet_at shape site sheets c.id).sheet ≡ true
-      → nat_lt clock (LIMIT - 1) ≡ false → with_room s (on_rec_by (ring_rule shape) site from c b None s) ≡ (s, [])
+      → nat_lt clock (STAMP_LIMIT - 1) ≡ false → with_room s (on_rec_by_stamp (ring_rule shape) site from c b None s) ≡ (s, [])
   join_full from b e untouched full =
-      proposing_late from b e untouched ∙ cond-false {A = Moved} (nat_lt (next_stamp 0 s) LIMIT) (late from b) (s, []) (room_is false full)
+      proposing_late from b e untouched ∙ cond-false {A = Step} (nat_lt (next_stamp 0 s) STAMP_LIMIT) (late from b) (s, []) (room_is false full)
 
   pub join_proposes : (from : ActorName) (b : ℕ) → takes b ≡ true → is_untouched (sheet_at shape site sheets c.id).sheet ≡ true
-      → nat_lt clock (LIMIT - 1) ≡ true → with_room s (on_rec_by (ring_rule shape) site from c b None s) ≡ late from b
+      → nat_lt clock (STAMP_LIMIT - 1) ≡ true → with_room s (on_rec_by_stamp (ring_rule shape) site from c b None s) ≡ late from b
   join_proposes from b e untouched room =
-      proposing_late from b e untouched ∙ cond-true {A = Moved} (nat_lt (next_stamp 0 s) LIMIT) (late from b) (s, []) (room_is true room)
+      proposing_late from b e untouched ∙ cond-true {A = Step} (nat_lt (next_stamp 0 s) STAMP_LIMIT) (late from b) (s, []) (room_is true room)
 
   -- the stamp of the proposal is that of the rules, above the clock and below the limit
   pub late_stamp : (t : ℕ) → t ≡ proposed_stamp 0 clock → next_stamp 0 s ≡ t
   late_stamp t is_stamp = ap (λ (n : ℕ). proposed_stamp 0 n) (sym h.clock_is) ∙ sym is_stamp
 
-  pub late_fits : (t : ℕ) → t ≡ proposed_stamp 0 clock → nat_lt clock (LIMIT - 1) ≡ true → (s.clock < t) × (t < LIMIT)
+  pub late_fits : (t : ℕ) → t ≡ proposed_stamp 0 clock → nat_lt clock (STAMP_LIMIT - 1) ≡ true → (s.clock < t) × (t < STAMP_LIMIT)
   late_fits t is_stamp room =
       let same = late_stamp t is_stamp in
-      let below : nat_lt s.clock (LIMIT - 1) ≡ true = ap (λ (n : ℕ). nat_lt n (LIMIT - 1)) (sym h.clock_is) ∙ room in (
+      let below : nat_lt s.clock (STAMP_LIMIT - 1) ≡ true = ap (λ (n : ℕ). nat_lt n (STAMP_LIMIT - 1)) (sym h.clock_is) ∙ room in (
         subst (λ (n : ℕ). s.clock < n) same (later 0 s.clock),
-        subst (λ (n : ℕ). n < LIMIT) same (stamp_low 0 s.clock (omega arith) below),
+        subst (λ (n : ℕ). n < STAMP_LIMIT) same (stamp_low 0 s.clock (omega arith) below),
       )
 
   abbrev late_sheet : ℕ → ℕ → Command → Sheet → Sheet
-  late_sheet b t k old = with_ballot b (with_proposal t Recovery (kept k old))
+  late_sheet b t k old = with_ballot b (with_proposal t Recovery (with_command k old))
 
   -- the sheet of a command that is kept, with the proposal and the ballot agreed to
   pub proposes_late_now : (new : IndexMap CommandId SiteSheet S) (copy : Command) (b t : ℕ) → is_command_at shape site.partition.0 c ≡ true → copy ≡ c
@@ -235,8 +236,8 @@ module _ {S : Type 0} (shape : Shape) (site : Site) (clock told : ℕ) (pairs : 
       changed shape site clock told pairs sheets new c.id _ (late_sheet b t c sheet) s now
       (promises b (proposed_at t c (sheet_at shape site sheets c.id)) above
       ∙ ap (λ (old : SiteSheet). keeping (late_sheet b t c old.sheet) old) (h.sheets_are c.id))
-      (with_ballot_low b (with_proposal t Recovery (kept c sheet))
-      (with_proposal_low t Recovery (kept c sheet) (kept_low site.partition.0 c sheet homed (h.low c.id)))) h
+      (with_ballot_low b (with_proposal t Recovery (with_command c sheet))
+      (with_proposal_low t Recovery (with_command c sheet) (kept_low site.partition.0 c sheet homed (h.low c.id)))) h
 
   -- what is told is what the rules tell
   pub tells_late : (copy : Command) (b t : ℕ) (told_now : RecoveryAnswer) → copy ≡ c → promise_by b (proposed_at t copy (sheet_at shape site sheets copy.id)) ≡ Some told_now
@@ -268,12 +269,12 @@ module _ {S : Type 0} (shape : Shape) (site : Site) (clock told : ℕ) (pairs : 
 
   -- what is told, the row of the rules, and the sheet
   pub agrees_some : (told_now : RecoveryAnswer) → promise_by b (sheet_at shape site sheets c.id) ≡ Some told_now
-      → ((from : ActorName) → agreed_above site from c b s ≡ agreed site from c b own s)
+      → ((from : ActorName) → agreed_above site from c b s ≡ answer_with_old_proposal site from c b own s)
       × (answer_of (site_sheet shape site own) ≡ told_now)
       × Agrees shape site clock told pairs mid (with_sheet c.id (with_ballot b own) s)
   agrees_some told_now e =
       let all = cond_some (nat_lt own.ballot b) (answer_of (site_sheet shape site own)) told_now (by_own (Some told_now) e) in (
-        λ from. cond-true {A = Moved} (nat_lt own.ballot b) (agreed site from c b own s) (s, []) all.0,
+        λ from. cond-true {A = Step} (nat_lt own.ballot b) (answer_with_old_proposal site from c b own s) (s, []) all.0,
         all.1,
         changed shape site clock told pairs sheets mid c.id (with_promise b (sheet_at shape site sheets c.id)) (with_ballot b own) s change
             (is_promised true all.0) (with_ballot_low b own (h.low c.id)) h,
@@ -287,7 +288,7 @@ module _ {S : Type 0} (shape : Shape) (site : Site) (clock told : ℕ) (pairs : 
       → ((from : ActorName) → agreed_above site from c b s ≡ (s, [])) × Agrees shape site clock told pairs mid s
   agrees_none e =
       let under = below (nat_lt own.ballot b) (answer_of (site_sheet shape site own)) (by_own None e) in (
-        λ from. cond-false {A = Moved} (nat_lt own.ballot b) (agreed site from c b own s) (s, []) under,
+        λ from. cond-false {A = Step} (nat_lt own.ballot b) (answer_with_old_proposal site from c b own s) (s, []) under,
         put_back shape site clock told pairs mid c.id s
             (changed shape site clock told pairs sheets mid c.id (with_promise b (sheet_at shape site sheets c.id)) own s change
             (is_promised false under) (h.low c.id) h),

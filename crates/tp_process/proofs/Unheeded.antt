@@ -7,7 +7,7 @@ use Rattle.tp_base.specs.declared.names.PartitionId.{PartitionId}
 use Rattle.tp_base.specs.declared.names.Site.{Site}
 use Rattle.tp_base.specs.declared.names.Stamp.{Stamp}
 use Rattle.tp_ops.specs.declared.command.Command.{Command}
-use Rattle.tp_rules.specs.Process.{Moved, ProcessState, on_body, on_message}
+use Rattle.tp_rules.specs.Process.{Step, ProcessState, on_body, on_message}
 use Rattle.tp_rules.specs.Sheet.{QuorumRule}
 use Rattle.tp_wire.specs.declared.message.Body.{Body}
 use Rattle.tp_wire.specs.declared.message.Body.TheVariants.{MSubmit, MPropose, MPayload, MProposeAck, MBump, MConsensus, MConsensusAck, MCommit, MRec, MRecAck, MPromises, MCommitted, MStable, MResult}
@@ -40,11 +40,11 @@ both_same true x = refl
 both_same false x = refl
 
 -- a step that changes nothing
-idle : (taken room : Bool) (moved : Moved) (s : ProcessState) → moved ≡ (s, []) → cond {A = Moved} taken (cond {A = Moved} room moved (s, [])) (s, []) ≡ (s, [])
+idle : (taken room : Bool) (moved : Step) (s : ProcessState) → moved ≡ (s, []) → cond {A = Step} taken (cond {A = Step} room moved (s, [])) (s, []) ≡ (s, [])
 idle taken room moved s e =
-    ap (λ (m : Moved). cond {A = Moved} taken (cond {A = Moved} room m (s, [])) (s, [])) e
-    ∙ ap (λ (m : Moved). cond {A = Moved} taken m (s, [])) (both_same {X = Moved} room (s, []))
-    ∙ both_same {X = Moved} taken (s, [])
+    ap (λ (m : Step). cond {A = Step} taken (cond {A = Step} room m (s, [])) (s, [])) e
+    ∙ ap (λ (m : Step). cond {A = Step} taken m (s, [])) (both_same {X = Step} room (s, []))
+    ∙ both_same {X = Step} taken (s, [])
 
 pub unheeded : (quorum_rule : QuorumRule) (me : Site) (m : Message) (s : ProcessState)
     → ((c : Command) → m.body ≡ MSubmit c → ⊥) → ((c : Command) (t : Stamp) → m.body ≡ MPropose c t → ⊥) → ((c : Command) → m.body ≡ MPayload c → ⊥)

@@ -1,6 +1,7 @@
 -- What it is for a process to be where the rules leave it.
 use Rattle.std.specs.Prelude.{◌≡◌, ◌≤◌, ◌<◌, ◌-◌, ◌==◌, ◌&&◌, ℕ, nat_lt, true, Bool, cond, List, [], ◌∷◌, Option, Some, None}
 use Rattle.indexmap.specs.IndexMap.{IndexMap}
+use Rattle.tp_base.specs.Limits.{STAMP_LIMIT}
 use Rattle.tp_base.specs.Lists.{Each}
 use Rattle.tp_base.specs.declared.names.ActorName.{ActorName}
 use Rattle.tp_base.specs.declared.names.ActorName.TheVariants.{Process as OfProcess, Executor as OfExecutor}
@@ -13,7 +14,7 @@ use Rattle.tp_process.specs.Sheets.{sheet_at}
 use Rattle.tp_process.specs.declared.process.Process.{Process}
 use Rattle.tp_rules.specs.Acts.{Act, Identity, ProcessAt}
 use Rattle.tp_rules.specs.Addresses.{is_between, message}
-use Rattle.tp_rules.specs.Process.{LIMIT, Moved, ProcessState, agreed, state_after, untold}
+use Rattle.tp_rules.specs.Process.{Step, ProcessState, answer_with_old_proposal, state_after, untold}
 use Rattle.tp_rules.specs.Sheet.{Sheet, is_fresh, ring_rule}
 use Rattle.tp_sheet.specs.SiteSheet.{SiteSheet}
 use Rattle.tp_topology.specs.Shape.{Shape}
@@ -27,12 +28,12 @@ identity p = ProcessAt p.place.topology p.place.site
 abbrev pub AreLow : List (Option ℕ) → Type 0
 AreLow [] = Unit {0}
 AreLow (None ∷ table) = AreLow table
-AreLow (Some t ∷ table) = (t < LIMIT) × AreLow table
+AreLow (Some t ∷ table) = (t < STAMP_LIMIT) × AreLow table
 
 -- an answer's stamp, if any, is below the limit
 abbrev pub IsLowAnswer : Option RecoveryAnswer → Type 0
 IsLowAnswer None = Unit {0}
-IsLowAnswer (Some a) = a.stamp.0 < LIMIT
+IsLowAnswer (Some a) = a.stamp.0 < STAMP_LIMIT
 
 -- a command's home, if any, is a rank of the shape
 abbrev pub IsHomed : Shape → Option Command → Type 0
@@ -44,7 +45,7 @@ pub record IsLow (shape : Shape) (sheet : Sheet) : Type 0 where
   pub home : IsHomed shape sheet.command
   pub known : AreLow sheet.known
   pub acknowledged : AreLow sheet.acknowledged
-  pub put : sheet.putting_stamp < LIMIT
+  pub put : sheet.putting_stamp < STAMP_LIMIT
   pub answers : Each IsLowAnswer sheet.answers
 
 abbrev pub site_sheet : Shape → Site → Sheet → SiteSheet
@@ -58,7 +59,7 @@ pub record Agrees {S : Type 0} (shape : Shape) (site : Site) (clock told : ℕ) 
   pub untold_is : pairs ≡ untold s
   pub attached : Each (λ pair. pair.stamp.0 ≤ s.clock) s.attached
   pub told_low : s.told ≤ s.clock
-  pub room : s.clock < LIMIT
+  pub room : s.clock < STAMP_LIMIT
   pub sheets_are : (id : CommandId) → sheet_at shape site sheets id ≡ site_sheet shape site (s.sheets id)
   pub low : (id : CommandId) → IsLow shape (s.sheets id)
 
@@ -70,12 +71,12 @@ abbrev pub Stands : Process → List Act → Type 0
 Stands p acts = IsState p (state_after (ring_rule p.place.topology) p.place.site acts)
 
 -- what the process keeps of a command
-abbrev pub kept_of : Process → CommandId → SiteSheet
-kept_of p id = sheet_at p.place.topology p.place.site p.sheets id
+abbrev pub sheet_of : Process → CommandId → SiteSheet
+sheet_of p id = sheet_at p.place.topology p.place.site p.sheets id
 
 -- whether the process proposes for a command, by the sheet and the clock
 abbrev pub takes_proposal : Process → Command → Bool
-takes_proposal p c = is_fresh (kept_of p c.id).site.partition.0 (kept_of p c.id).sheet && nat_lt p.clock.clock (LIMIT - 1)
+takes_proposal p c = is_fresh (sheet_of p c.id).site.partition.0 (sheet_of p c.id).sheet && nat_lt p.clock.clock (STAMP_LIMIT - 1)
 
 abbrev pub takes_submission : Process → Command → Bool
 takes_submission p c = (c.home.0 == p.place.site.rank.0) && takes_proposal p c
@@ -85,8 +86,8 @@ abbrev pub answer_with : Site → ActorName → CommandId → ℕ → RecoveryAn
 answer_with me from id b told = message (OfProcess me) from (MRecAck id told.stamp told.made told.accepted b)
 
 -- agreed to a ballot that is above the one agreed to before
-abbrev pub agreed_above : Site → ActorName → Command → ℕ → ProcessState → Moved
-agreed_above me from c b s = cond (nat_lt (s.sheets c.id).ballot b) (agreed me from c b (s.sheets c.id) s) (s, [])
+abbrev pub agreed_above : Site → ActorName → Command → ℕ → ProcessState → Step
+agreed_above me from c b s = cond (nat_lt (s.sheets c.id).ballot b) (answer_with_old_proposal me from c b (s.sheets c.id) s) (s, [])
 
 -- the final stamp, told to the site's executor
 abbrev pub committed : Site → Option Command → ℕ → List Message

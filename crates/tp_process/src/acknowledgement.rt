@@ -1,7 +1,8 @@
 ghost use Rattle.std.specs.Prelude.{◌≡◌, ◌<◌, ◌++◌, true, IfOk, OnOk};
-ghost use Rattle.tp_process.specs.State.{IsState, identity, kept_of};
+ghost use Rattle.tp_base.specs.Limits.{STAMP_LIMIT};
+ghost use Rattle.tp_process.specs.State.{IsState, identity, sheet_of};
 ghost use Rattle.tp_rules.specs.Addresses.{is_between, is_name_of, site};
-ghost use Rattle.tp_rules.specs.Process.{LIMIT, ProcessState, commits, decided, on_propose_ack, put_to_vote, with_sheet};
+ghost use Rattle.tp_rules.specs.Process.{ProcessState, commit_messages, decided, on_propose_ack, put_to_vote, with_sheet};
 ghost use Rattle.tp_rules.specs.Sheet.{Sheet, ring_rule};
 ghost use Rattle.tp_wire.specs.Ranges.{IsProcess};
 
@@ -23,8 +24,8 @@ impl Process {
     ) -> Result<Outputs, NoMemory>
         requires { is_name_of self.old.place.topology from ≡ true }
         ensures identity { identity self.new ≡ identity self.old }
-        ensures outputs { IfOk result (λ outputs. (s : ProcessState) → IsState self.old s → IsProcess from → stamp.0 < LIMIT → outputs ≡ (on_propose_ack (ring_rule self.old.place.topology) self.old.place.site from id stamp.0 s).1) }
-        ensures state { OnOk result ((s : ProcessState) → IsState self.old s → IsProcess from → stamp.0 < LIMIT → IsState self.new (on_propose_ack (ring_rule self.old.place.topology) self.old.place.site from id stamp.0 s).0) }
+        ensures outputs { IfOk result (λ outputs. (s : ProcessState) → IsState self.old s → IsProcess from → stamp.0 < STAMP_LIMIT → outputs ≡ (on_propose_ack (ring_rule self.old.place.topology) self.old.place.site from id stamp.0 s).1) }
+        ensures state { OnOk result ((s : ProcessState) → IsState self.old s → IsProcess from → stamp.0 < STAMP_LIMIT → IsState self.new (on_propose_ack (ring_rule self.old.place.topology) self.old.place.site from id stamp.0 s).0) }
     {
         match from {
             ActorName::Process(site) => self.count_proposal(site.rank, id, stamp),
@@ -41,8 +42,8 @@ impl Process {
         stamp: Stamp,
     ) -> Result<Outputs, NoMemory>
         ensures identity { identity self.new ≡ identity self.old }
-        ensures outputs { IfOk result (λ outputs. (s : ProcessState) → IsState self.old s → is_between rank.0 self.old.place.topology.replicas ≡ true → stamp.0 < LIMIT → outputs ≡ (on_propose_ack (ring_rule self.old.place.topology) self.old.place.site (ActorName.Process (site 0 rank.0)) id stamp.0 s).1) }
-        ensures state { OnOk result ((s : ProcessState) → IsState self.old s → is_between rank.0 self.old.place.topology.replicas ≡ true → stamp.0 < LIMIT → IsState self.new (on_propose_ack (ring_rule self.old.place.topology) self.old.place.site (ActorName.Process (site 0 rank.0)) id stamp.0 s).0) }
+        ensures outputs { IfOk result (λ outputs. (s : ProcessState) → IsState self.old s → is_between rank.0 self.old.place.topology.replicas ≡ true → stamp.0 < STAMP_LIMIT → outputs ≡ (on_propose_ack (ring_rule self.old.place.topology) self.old.place.site (ActorName.Process (site 0 rank.0)) id stamp.0 s).1) }
+        ensures state { OnOk result ((s : ProcessState) → IsState self.old s → is_between rank.0 self.old.place.topology.replicas ≡ true → stamp.0 < STAMP_LIMIT → IsState self.new (on_propose_ack (ring_rule self.old.place.topology) self.old.place.site (ActorName.Process (site 0 rank.0)) id stamp.0 s).0) }
     {
         match acknowledge(&mut self.sheets, &self.place, id, rank, stamp) {
             Some(FastChoice::Fast(top)) => self.decide(id, top),
@@ -56,8 +57,8 @@ impl Process {
     /// Tells the partition's stamp to all other processes of the command, and learns it here.
     pub(crate) fn decide(&mut self, id: CommandId, stamp: Stamp) -> Result<Outputs, NoMemory>
         ensures identity { identity self.new ≡ identity self.old }
-        ensures outputs { IfOk result (λ outputs. (s : ProcessState) → (sheet : Sheet) → IsState self.old (with_sheet id sheet s) → stamp.0 < LIMIT → outputs ≡ (decided self.old.place.topology self.old.place.site id stamp.0 sheet s).1) }
-        ensures state { OnOk result ((s : ProcessState) → (sheet : Sheet) → IsState self.old (with_sheet id sheet s) → stamp.0 < LIMIT → IsState self.new (decided self.old.place.topology self.old.place.site id stamp.0 sheet s).0) }
+        ensures outputs { IfOk result (λ outputs. (s : ProcessState) → (sheet : Sheet) → IsState self.old (with_sheet id sheet s) → stamp.0 < STAMP_LIMIT → outputs ≡ (decided self.old.place.topology self.old.place.site id stamp.0 sheet s).1) }
+        ensures state { OnOk result ((s : ProcessState) → (sheet : Sheet) → IsState self.old (with_sheet id sheet s) → stamp.0 < STAMP_LIMIT → IsState self.new (decided self.old.place.topology self.old.place.site id stamp.0 sheet s).0) }
     {
         let mut outputs = Sequence::new(self.alloc);
         self.tell_commit(&mut outputs, id, stamp)?;
@@ -66,14 +67,14 @@ impl Process {
         Ok(outputs)
     }
 
-    #[tactic(auto, unfolding(tp_rules::specs::Process::commits))]
+    #[tactic(auto, unfolding(tp_rules::specs::Process::commit_messages))]
     fn tell_commit(
         &self,
         outputs: &mut Outputs,
         id: CommandId,
         stamp: Stamp,
     ) -> Result<(), NoMemory>
-        ensures { OnOk result (outputs.new ≡ outputs.old ++ commits self.now.place.topology self.now.place.site (kept_of self.now id).sheet.command stamp.0) }
+        ensures { OnOk result (outputs.new ≡ outputs.old ++ commit_messages self.now.place.topology self.now.place.site (sheet_of self.now id).sheet.command stamp.0) }
     {
         match command_at(&self.sheets, &self.place, id) {
             Some(command) => {
@@ -96,7 +97,7 @@ impl Process {
         ballot: u64,
         stamp: Stamp,
     ) -> Result<Outputs, NoMemory>
-        ensures { IfOk result (λ outputs. outputs ≡ put_to_vote self.now.place.topology self.now.place.site ballot stamp.0 (kept_of self.now id).sheet.command) }
+        ensures { IfOk result (λ outputs. outputs ≡ put_to_vote self.now.place.topology self.now.place.site ballot stamp.0 (sheet_of self.now id).sheet.command) }
     {
         let mut outputs = Sequence::new(self.alloc);
         if let Some(command) = command_at(&self.sheets, &self.place, id) {

@@ -1,7 +1,8 @@
 ghost use Rattle.std.specs.Prelude.{◌≡◌, ◌≤◌, ◌<◌, ◌++◌, true, IfOk, OnOk};
-ghost use Rattle.tp_process.specs.State.{IsState, committed, identity, kept_of};
+ghost use Rattle.tp_base.specs.Limits.{STAMP_LIMIT};
+ghost use Rattle.tp_process.specs.State.{IsState, committed, identity, sheet_of};
 ghost use Rattle.tp_rules.specs.Addresses.{is_between, is_command_at};
-ghost use Rattle.tp_rules.specs.Process.{LIMIT, ProcessState, learned, on_commit, with_sheet};
+ghost use Rattle.tp_rules.specs.Process.{ProcessState, learned, on_commit, with_sheet};
 ghost use Rattle.tp_rules.specs.Sheet.{Sheet, ring_rule};
 
 use crate::process::Process;
@@ -22,8 +23,8 @@ impl Process {
         requires command { is_command_at self.old.place.topology self.old.place.site.partition.0 command.now ≡ true }
         requires partition { is_between partition.0 self.old.place.topology.partitions ≡ true }
         ensures identity { identity self.new ≡ identity self.old }
-        ensures outputs { IfOk result (λ outputs. (s : ProcessState) → IsState self.old s → stamp.0 < LIMIT → outputs ≡ (on_commit (ring_rule self.old.place.topology) self.old.place.site command.now partition.0 stamp.0 s).1) }
-        ensures state { OnOk result ((s : ProcessState) → IsState self.old s → stamp.0 < LIMIT → IsState self.new (on_commit (ring_rule self.old.place.topology) self.old.place.site command.now partition.0 stamp.0 s).0) }
+        ensures outputs { IfOk result (λ outputs. (s : ProcessState) → IsState self.old s → stamp.0 < STAMP_LIMIT → outputs ≡ (on_commit (ring_rule self.old.place.topology) self.old.place.site command.now partition.0 stamp.0 s).1) }
+        ensures state { OnOk result ((s : ProcessState) → IsState self.old s → stamp.0 < STAMP_LIMIT → IsState self.new (on_commit (ring_rule self.old.place.topology) self.old.place.site command.now partition.0 stamp.0 s).0) }
     {
         if !accesses(command, self.place.topology.partitions(), partition) {
             return Ok(self.nothing());
@@ -45,8 +46,8 @@ impl Process {
         requires some { 1 ≤ partition.0 }
         requires few { partition.0 ≤ 4 }
         ensures identity { identity self.new ≡ identity self.old }
-        ensures outputs { OnOk result ((s : ProcessState) → (sheet : Sheet) → IsState self.old (with_sheet id sheet s) → stamp.0 < LIMIT → outputs.new ≡ outputs.old ++ (learned self.old.place.topology self.old.place.site id partition.0 stamp.0 sheet s).1) }
-        ensures state { OnOk result ((s : ProcessState) → (sheet : Sheet) → IsState self.old (with_sheet id sheet s) → stamp.0 < LIMIT → IsState self.new (learned self.old.place.topology self.old.place.site id partition.0 stamp.0 sheet s).0) }
+        ensures outputs { OnOk result ((s : ProcessState) → (sheet : Sheet) → IsState self.old (with_sheet id sheet s) → stamp.0 < STAMP_LIMIT → outputs.new ≡ outputs.old ++ (learned self.old.place.topology self.old.place.site id partition.0 stamp.0 sheet s).1) }
+        ensures state { OnOk result ((s : ProcessState) → (sheet : Sheet) → IsState self.old (with_sheet id sheet s) → stamp.0 < STAMP_LIMIT → IsState self.new (learned self.old.place.topology self.old.place.site id partition.0 stamp.0 sheet s).0) }
     {
         match learn(&mut self.sheets, &self.place, id, partition, stamp)? {
             Some(last) => {
@@ -64,7 +65,7 @@ impl Process {
         id: CommandId,
         stamp: Stamp,
     ) -> Result<(), NoMemory>
-        ensures { OnOk result (outputs.new ≡ outputs.old ++ committed self.now.place.site (kept_of self.now id).sheet.command stamp.0) }
+        ensures { OnOk result (outputs.new ≡ outputs.old ++ committed self.now.place.site (sheet_of self.now id).sheet.command stamp.0) }
     {
         match command_at(&self.sheets, &self.place, id) {
             Some(command) => outputs.add(Message {

@@ -1,13 +1,14 @@
 ghost use Rattle.std.specs.Prelude.{◌≡◌, ◌<◌, ◌∷◌, [], true, IfOk, OnOk};
+ghost use Rattle.tp_base.specs.Limits.{STAMP_LIMIT as the_limit};
 ghost use Rattle.tp_process.specs.State.{IsState, identity};
 ghost use Rattle.tp_rules.specs.Addresses.{is_between, is_command_at, is_name_of, message, site};
-ghost use Rattle.tp_rules.specs.Process.{LIMIT as the_limit, ProcessState, on_consensus, on_consensus_ack};
+ghost use Rattle.tp_rules.specs.Process.{ProcessState, on_consensus, on_consensus_ack};
 ghost use Rattle.tp_rules.specs.Sheet.{ring_rule};
 ghost use Rattle.tp_wire.specs.Ranges.{IsProcess};
 
-use crate::process::{LIMIT, Process};
+use crate::process::Process;
 use crate::sheets::{accept, keep, vote};
-use tp_base::{ActorName, CommandId, Duplicate, NoMemory, Rank, Stamp};
+use tp_base::{ActorName, CommandId, Duplicate, NoMemory, Rank, STAMP_LIMIT, Stamp};
 use tp_ops::Command;
 use tp_rules::Outputs;
 use tp_wire::{Body, Message};
@@ -26,7 +27,7 @@ impl Process {
         ensures outputs { IfOk result (λ outputs. (s : ProcessState) → IsState self.old s → outputs ≡ (on_consensus self.old.place.site from command.now stamp.0 ballot s).1) }
         ensures state { OnOk result ((s : ProcessState) → IsState self.old s → stamp.0 < the_limit → IsState self.new (on_consensus self.old.place.site from command.now stamp.0 ballot s).0) }
     {
-        if LIMIT <= ballot {
+        if STAMP_LIMIT <= ballot {
             return Ok(self.nothing());
         }
         let accepted = accept(&mut self.sheets, &self.place, command.id, stamp, ballot)?;

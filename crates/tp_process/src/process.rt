@@ -1,8 +1,9 @@
 ghost use Rattle.std.specs.Prelude.{◌≡◌, ◌<◌, ◌-◌, ◌∷◌, [], false, nat_lt, List, IfOk, OnOk};
 ghost use Rattle.std.specs.Option.{option_map};
+ghost use Rattle.tp_base.specs.Limits.{STAMP_LIMIT as the_limit};
 ghost use Rattle.tp_clock.specs.Clocks.{Promised};
 ghost use Rattle.tp_rules.specs.Acts.{Act, ProcessAt};
-ghost use Rattle.tp_rules.specs.Process.{LIMIT as the_limit, ProcessState, bumped, on_inner, on_message, proposing, state_after, with_sheet};
+ghost use Rattle.tp_rules.specs.Process.{ProcessState, bumped, on_inner, on_message, proposing, state_after, with_sheet};
 ghost use Rattle.tp_rules.specs.Sheet.{Sheet, final_stamp as final_stamp_in, ring_rule};
 ghost use Rattle.tp_sheet.specs.SiteSheet.{IsSiteOf};
 ghost use Rattle.tp_wire.specs.Ranges.{IsInRange};
@@ -11,14 +12,11 @@ use crate::place::Place;
 use crate::sheets::{Sheets, final_stamp};
 use indexmap::IndexMap;
 use std::alloc::Global;
-use tp_base::{ActorName, CommandId, NoMemory, Pair, Pairs, Sequence, Site, Stamp};
+use tp_base::{ActorName, CommandId, NoMemory, Pair, Pairs, STAMP_LIMIT, Sequence, Site, Stamp};
 use tp_clock::Clock;
 use tp_rules::{Actor, Inner, Outputs};
 use tp_topology::Topology;
 use tp_wire::{Body, Message};
-
-/// Stamps stay below this.
-pub(crate) const LIMIT: u64 = 1 << 48;
 
 /// The process of a site. Of the attached promises it keeps those that it has not told yet.
 #[derive(Drop)]
@@ -76,7 +74,7 @@ impl Process {
     pub(crate) fn has_room(&self) -> bool
         ensures { result ≡ nat_lt self.now.clock.clock (the_limit - 1) }
     {
-        self.clock.now() < LIMIT - 1
+        self.clock.now() < STAMP_LIMIT - 1
     }
 
     /// Attaches the stamp that the clock has just proposed to a command.
@@ -93,7 +91,7 @@ impl Process {
         ensures identity { identity self.new ≡ identity self.old }
         ensures state { (s : ProcessState) → IsState self.old s → stamp.0 < the_limit → IsState self.new (bumped stamp.0 s) }
     {
-        if stamp.0 < LIMIT {
+        if stamp.0 < STAMP_LIMIT {
             self.clock.bump(stamp.0);
         }
     }

@@ -1,14 +1,17 @@
 ghost use Rattle.std.specs.Prelude.{◌≡◌, ◌<◌, ◌-◌, ◌∷◌, ◌&&◌, [], nat_lt, true, Option, None, IfOk, OnOk};
-ghost use Rattle.tp_process.specs.State.{IsState, agreed_above, answer_with, identity, kept_of};
+ghost use Rattle.tp_base.specs.Limits.{STAMP_LIMIT as the_limit};
+ghost use Rattle.tp_process.specs.State.{IsState, agreed_above, answer_with, identity, sheet_of};
 ghost use Rattle.tp_rules.specs.Addresses.{is_between, is_command_at, is_name_of, site};
-ghost use Rattle.tp_rules.specs.Process.{LIMIT as the_limit, ProcessState, asked, bumps, next_stamp, on_rec, on_rec_ack, on_rec_by, on_recover, proposed_late, told as told_in, with_room};
+ghost use Rattle.tp_rules.specs.Process.{ProcessState, asked, bumps, next_stamp, on_rec, on_rec_ack, on_rec_by_stamp, on_recover, propose_and_answer, commit_reply, with_room};
 ghost use Rattle.tp_rules.specs.Sheet.{command_or as kept_or, ring_rule, stamp_of};
 ghost use Rattle.tp_wire.specs.Ranges.{IsProcess};
 
 use crate::addresses::{processes_of, send_each};
-use crate::process::{LIMIT, Process};
-use crate::sheets::{answer, command_at, is_fresh, keep, promise, propose_late, recover, stamp_at};
-use tp_base::{ActorName, CommandId, Duplicate, Made, NoMemory, Rank, Stamp};
+use crate::process::Process;
+use crate::sheets::{
+    answer, command_at, is_fresh, keep, promise, propose_for_recovery, recover, stamp_at,
+};
+use tp_base::{ActorName, CommandId, Duplicate, Made, NoMemory, Rank, STAMP_LIMIT, Stamp};
 use tp_choice::RecoveryAnswer;
 use tp_ops::Command;
 use tp_rules::Outputs;
@@ -42,7 +45,7 @@ impl Process {
         let partition = self.place.site.partition;
         match stamp_at(&self.sheets, &self.place, command.id, partition) {
             Some(stamp) => self.tell_stamp(from, command.id, stamp),
-            None => self.join(from, command, ballot),
+            None => self.answer_recovery(from, command, ballot),
         }
     }
 
@@ -94,27 +97,32 @@ impl Process {
 
     /// Answers a recovery at a ballot above the own one, with a proposal made first where there is
     /// nothing to tell.
-    fn join(&mut self, from: ActorName, command: &Command, ballot: u64) -> Result<Outputs, NoMemory>
+    fn answer_recovery(
+        &mut self,
+        from: ActorName,
+        command: &Command,
+        ballot: u64,
+    ) -> Result<Outputs, NoMemory>
         requires command { is_command_at self.old.place.topology self.old.place.site.partition.0 command.now ≡ true }
-        requires unknown { stamp_of (kept_of self.old command.now.id).sheet self.old.place.site.partition.0 ≡ None }
+        requires unknown { stamp_of (sheet_of self.old command.now.id).sheet self.old.place.site.partition.0 ≡ None }
         ensures identity { identity self.new ≡ identity self.old }
-        ensures outputs { IfOk result (λ outputs. (s : ProcessState) → IsState self.old s → outputs ≡ (with_room s (on_rec_by (ring_rule self.old.place.topology) self.old.place.site from command.now ballot None s)).1) }
-        ensures state { OnOk result ((s : ProcessState) → IsState self.old s → IsState self.new (with_room s (on_rec_by (ring_rule self.old.place.topology) self.old.place.site from command.now ballot None s)).0) }
+        ensures outputs { IfOk result (λ outputs. (s : ProcessState) → IsState self.old s → outputs ≡ (with_room s (on_rec_by_stamp (ring_rule self.old.place.topology) self.old.place.site from command.now ballot None s)).1) }
+        ensures state { OnOk result ((s : ProcessState) → IsState self.old s → IsState self.new (with_room s (on_rec_by_stamp (ring_rule self.old.place.topology) self.old.place.site from command.now ballot None s)).0) }
     {
         if !is_tried(ballot) {
             return Ok(self.nothing());
         }
         if !is_fresh(&self.sheets, &self.place, command.id) {
-            return self.agree(from, command, ballot);
+            return self.answer_with_old_proposal(from, command, ballot);
         }
         if !self.has_room() {
             return Ok(self.nothing());
         }
-        self.propose_late(from, command, ballot)
+        self.propose_and_answer(from, command, ballot)
     }
 
     /// Answers a recovery at a ballot above the own one with what there is to tell.
-    fn agree(
+    fn answer_with_old_proposal(
         &mut self,
         from: ActorName,
         command: &Command,
@@ -136,22 +144,23 @@ impl Process {
         }
     }
 
-    fn propose_late(
+    /// Proposes first, and answers a recovery with that.
+    fn propose_and_answer(
         &mut self,
         from: ActorName,
         command: &Command,
         ballot: u64,
     ) -> Result<Outputs, NoMemory>
         requires command { is_command_at self.old.place.topology self.old.place.site.partition.0 command.now ≡ true }
-        requires above { nat_lt (kept_of self.old command.now.id).sheet.ballot ballot ≡ true }
+        requires above { nat_lt (sheet_of self.old command.now.id).sheet.ballot ballot ≡ true }
         requires room { nat_lt self.old.clock.clock (the_limit - 1) ≡ true }
         ensures identity { identity self.new ≡ identity self.old }
-        ensures outputs { IfOk result (λ outputs. (s : ProcessState) → IsState self.old s → outputs ≡ (proposed_late (ring_rule self.old.place.topology) self.old.place.site from command.now ballot (next_stamp 0 s) (s.sheets command.now.id) s).1) }
-        ensures state { OnOk result ((s : ProcessState) → IsState self.old s → IsState self.new (proposed_late (ring_rule self.old.place.topology) self.old.place.site from command.now ballot (next_stamp 0 s) (s.sheets command.now.id) s).0) }
+        ensures outputs { IfOk result (λ outputs. (s : ProcessState) → IsState self.old s → outputs ≡ (propose_and_answer (ring_rule self.old.place.topology) self.old.place.site from command.now ballot (next_stamp 0 s) (s.sheets command.now.id) s).1) }
+        ensures state { OnOk result ((s : ProcessState) → IsState self.old s → IsState self.new (propose_and_answer (ring_rule self.old.place.topology) self.old.place.site from command.now ballot (next_stamp 0 s) (s.sheets command.now.id) s).0) }
     {
         let stamp = self.clock.propose(0);
         let copy = command.copy()?;
-        match propose_late(&mut self.sheets, &self.place, copy, ballot, stamp)? {
+        match propose_for_recovery(&mut self.sheets, &self.place, copy, ballot, stamp)? {
             Some(told) => {
                 let outputs = self.late_answer(from, command, told, ballot, stamp)?;
                 self.promise(command.id, stamp)?;
@@ -170,7 +179,7 @@ impl Process {
         ballot: u64,
         stamp: Stamp,
     ) -> Result<Outputs, NoMemory>
-        ensures { IfOk result (λ outputs. outputs ≡ answer_with self.now.place.site from command.now.id ballot told ∷ bumps self.now.place.topology self.now.place.site (kept_or command.now (kept_of self.now command.now.id).sheet) stamp.0) }
+        ensures { IfOk result (λ outputs. outputs ≡ answer_with self.now.place.site from command.now.id ballot told ∷ bumps self.now.place.topology self.now.place.site (kept_or command.now (sheet_of self.now command.now.id).sheet) stamp.0) }
     {
         let mut outputs = self.nothing();
         outputs.add(self.answer(from, command.id, told, ballot))?;
@@ -196,7 +205,7 @@ impl Process {
 
     /// Tells the partition's stamp of a command to the one that recovers it.
     fn tell_stamp(&self, from: ActorName, id: CommandId, stamp: Stamp) -> Result<Outputs, NoMemory>
-        ensures { IfOk result (λ outputs. outputs ≡ told_in self.now.place.site from (kept_of self.now id).sheet.command stamp.0) }
+        ensures { IfOk result (λ outputs. outputs ≡ commit_reply self.now.place.site from (sheet_of self.now id).sheet.command stamp.0) }
     {
         let mut outputs = self.nothing();
         if let Some(command) = command_at(&self.sheets, &self.place, id) {
@@ -215,7 +224,7 @@ impl Process {
 
     /// Asks all ranks for what they know of a command, at a ballot.
     fn ask(&self, id: CommandId, ballot: u64) -> Result<Outputs, NoMemory>
-        ensures { IfOk result (λ outputs. outputs ≡ asked self.now.place.topology self.now.place.site ballot (kept_of self.now id).sheet.command) }
+        ensures { IfOk result (λ outputs. outputs ≡ asked self.now.place.topology self.now.place.site ballot (sheet_of self.now id).sheet.command) }
     {
         let mut outputs = self.nothing();
         if let Some(command) = command_at(&self.sheets, &self.place, id) {
@@ -235,5 +244,5 @@ impl Process {
 fn is_tried(ballot: u64) -> bool
     ensures { result ≡ (nat_lt 0 ballot && nat_lt ballot the_limit) }
 {
-    0 < ballot && ballot < LIMIT
+    0 < ballot && ballot < STAMP_LIMIT
 }

@@ -1,8 +1,8 @@
 ghost use Rattle.std.specs.Prelude.{◌≡◌, ◌≤◌, OnOk, IfOk};
 ghost use Rattle.std.specs.Option.{option_copied, option_map};
 ghost use Rattle.tp_process.specs.Sheets.{sheet_at, OpensSheet, ChangesSheet};
-ghost use Rattle.tp_rules.specs.Sheet.{can_accept, command_or as kept_or, is_fresh as is_fresh_in, kept, stamp_of, with_proposal};
-ghost use Rattle.tp_sheet.specs.SiteSheet.{with_sheet, with_own, choice_by, with_acknowledgement, decision_by, with_vote_of, with_known, final_of, final_by, ballot_by, promise_by, with_try, recovery_by, with_acceptance, with_answer_of, with_promise};
+ghost use Rattle.tp_rules.specs.Sheet.{can_accept, command_or as kept_or, is_fresh as is_fresh_in, with_command, stamp_of, with_proposal};
+ghost use Rattle.tp_sheet.specs.SiteSheet.{with_sheet, with_own_ack, choice_after_ack, with_acknowledgement, decision_after_vote, with_vote_of, with_known, final_of, final_after_learning, ballot_by, promise_by, with_try, choice_after_answer, with_acceptance, with_answer_of, with_promise};
 
 use crate::place::Place;
 use indexmap::IndexMap;
@@ -71,7 +71,7 @@ fn open(sheets: &mut Sheets, place: &Place, id: CommandId) -> Result<(), NoMemor
 
 /// Keeps a command in its sheet.
 pub(crate) fn keep(sheets: &mut Sheets, place: &Place, command: Command) -> Result<(), NoMemory>
-    ensures { OnOk result (let old = sheet_at place.now.topology place.now.site sheets.old command.id in ChangesSheet place.now.topology place.now.site sheets.old sheets.new command.id (with_sheet (kept command old.sheet) old)) }
+    ensures { OnOk result (let old = sheet_at place.now.topology place.now.site sheets.old command.id in ChangesSheet place.now.topology place.now.site sheets.old sheets.new command.id (with_sheet (with_command command old.sheet) old)) }
 {
     let id = command.id;
     open(sheets, place, id)?;
@@ -88,7 +88,7 @@ pub(crate) fn propose(
     command: Command,
     stamp: Stamp,
 ) -> Result<(), NoMemory>
-    ensures { OnOk result (let old = sheet_at place.now.topology place.now.site sheets.old command.id in ChangesSheet place.now.topology place.now.site sheets.old sheets.new command.id (with_sheet (with_proposal stamp.0 Made.Proposal (kept command old.sheet)) old)) }
+    ensures { OnOk result (let old = sheet_at place.now.topology place.now.site sheets.old command.id in ChangesSheet place.now.topology place.now.site sheets.old sheets.new command.id (with_sheet (with_proposal stamp.0 Made.Proposal (with_command command old.sheet)) old)) }
 {
     let id = command.id;
     open(sheets, place, id)?;
@@ -106,7 +106,7 @@ pub(crate) fn submit(
     command: Command,
     stamp: Stamp,
 ) -> Result<(), NoMemory>
-    ensures { OnOk result (let old = sheet_at place.now.topology place.now.site sheets.old command.id in ChangesSheet place.now.topology place.now.site sheets.old sheets.new command.id (with_own stamp.0 (with_sheet (with_proposal stamp.0 Made.Proposal (kept command old.sheet)) old))) }
+    ensures { OnOk result (let old = sheet_at place.now.topology place.now.site sheets.old command.id in ChangesSheet place.now.topology place.now.site sheets.old sheets.new command.id (with_own_ack stamp.0 (with_sheet (with_proposal stamp.0 Made.Proposal (with_command command old.sheet)) old))) }
 {
     let id = command.id;
     open(sheets, place, id)?;
@@ -126,7 +126,7 @@ pub(crate) fn acknowledge(
     rank: Rank,
     stamp: Stamp,
 ) -> Option<FastChoice>
-    ensures choice { result ≡ choice_by rank.0 stamp.0 (sheet_at place.now.topology place.now.site sheets.old id) }
+    ensures choice { result ≡ choice_after_ack rank.0 stamp.0 (sheet_at place.now.topology place.now.site sheets.old id) }
     ensures changed { ChangesSheet place.now.topology place.now.site sheets.old sheets.new id (with_acknowledgement rank.0 stamp.0 (sheet_at place.now.topology place.now.site sheets.old id)) }
 {
     match sheets.get_mut(&id) {
@@ -161,7 +161,7 @@ pub(crate) fn vote(
     rank: Rank,
     ballot: u64,
 ) -> Option<Stamp>
-    ensures decision { option_map (λ t. t.0) result ≡ decision_by rank.0 ballot (sheet_at place.now.topology place.now.site sheets.old id) }
+    ensures decision { option_map (λ t. t.0) result ≡ decision_after_vote rank.0 ballot (sheet_at place.now.topology place.now.site sheets.old id) }
     ensures changed { ChangesSheet place.now.topology place.now.site sheets.old sheets.new id (with_vote_of rank.0 ballot (sheet_at place.now.topology place.now.site sheets.old id)) }
 {
     match sheets.get_mut(&id) {
@@ -204,15 +204,15 @@ pub(crate) fn promise(
 }
 
 /// Keeps a command in its sheet, with a proposal that a recovery makes, and agrees to its ballot.
-pub(crate) fn propose_late(
+pub(crate) fn propose_for_recovery(
     sheets: &mut Sheets,
     place: &Place,
     command: Command,
     ballot: u64,
     stamp: Stamp,
 ) -> Result<Option<RecoveryAnswer>, NoMemory>
-    ensures answer { IfOk result (λ told. let old = sheet_at place.now.topology place.now.site sheets.old command.id in told ≡ promise_by ballot (with_sheet (with_proposal stamp.0 Made.Recovery (kept command old.sheet)) old)) }
-    ensures changed { OnOk result (let old = sheet_at place.now.topology place.now.site sheets.old command.id in ChangesSheet place.now.topology place.now.site sheets.old sheets.new command.id (with_promise ballot (with_sheet (with_proposal stamp.0 Made.Recovery (kept command old.sheet)) old))) }
+    ensures answer { IfOk result (λ told. let old = sheet_at place.now.topology place.now.site sheets.old command.id in told ≡ promise_by ballot (with_sheet (with_proposal stamp.0 Made.Recovery (with_command command old.sheet)) old)) }
+    ensures changed { OnOk result (let old = sheet_at place.now.topology place.now.site sheets.old command.id in ChangesSheet place.now.topology place.now.site sheets.old sheets.new command.id (with_promise ballot (with_sheet (with_proposal stamp.0 Made.Recovery (with_command command old.sheet)) old))) }
 {
     let id = command.id;
     open(sheets, place, id)?;
@@ -245,7 +245,7 @@ pub(crate) fn answer(
     answer: RecoveryAnswer,
     ballot: u64,
 ) -> Option<Stamp>
-    ensures choice { option_map (λ t. t.0) result ≡ recovery_by answer ballot (sheet_at place.now.topology place.now.site sheets.old id) }
+    ensures choice { option_map (λ t. t.0) result ≡ choice_after_answer answer ballot (sheet_at place.now.topology place.now.site sheets.old id) }
     ensures changed { ChangesSheet place.now.topology place.now.site sheets.old sheets.new id (with_answer_of answer ballot (sheet_at place.now.topology place.now.site sheets.old id)) }
 {
     match sheets.get_mut(&id) {
@@ -264,7 +264,7 @@ pub(crate) fn learn(
 ) -> Result<Option<Stamp>, NoMemory>
     requires some { 1 ≤ partition.0 }
     requires few { partition.0 ≤ 4 }
-    ensures last { IfOk result (λ last. option_map (λ t. t.0) last ≡ final_by partition.0 stamp.0 (sheet_at place.now.topology place.now.site sheets.old id)) }
+    ensures last { IfOk result (λ last. option_map (λ t. t.0) last ≡ final_after_learning partition.0 stamp.0 (sheet_at place.now.topology place.now.site sheets.old id)) }
     ensures changed { OnOk result (ChangesSheet place.now.topology place.now.site sheets.old sheets.new id (with_known partition.0 stamp.0 (sheet_at place.now.topology place.now.site sheets.old id))) }
 {
     open(sheets, place, id)?;

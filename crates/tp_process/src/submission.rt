@@ -1,15 +1,16 @@
 ghost use Rattle.std.specs.Prelude.{◌≡◌, ◌≤◌, ◌<◌, ◌++◌, ◌∷◌, [], true, cond, IfOk, OnOk};
-ghost use Rattle.tp_process.specs.State.{IsState, identity, kept_of, takes_proposal, takes_submission};
+ghost use Rattle.tp_base.specs.Limits.{STAMP_LIMIT as the_limit};
+ghost use Rattle.tp_process.specs.State.{IsState, identity, sheet_of, takes_proposal, takes_submission};
 ghost use Rattle.tp_rules.specs.Addresses.{is_command_at, message};
-ghost use Rattle.tp_rules.specs.Process.{LIMIT as the_limit, ProcessState, bumps, on_bump, on_payload, on_propose, on_submit, proposals, with_room};
+ghost use Rattle.tp_rules.specs.Process.{ProcessState, bumps, on_bump, on_payload, on_propose, on_submit, proposals, with_room};
 ghost use Rattle.tp_rules.specs.Sheet.{command_or as kept_or, ring_rule};
 ghost use Rattle.tp_topology.specs.Shape.{in_ring};
 
 use crate::addresses::{counterparts, send_each};
 use crate::place::Place;
-use crate::process::{LIMIT, Process};
+use crate::process::Process;
 use crate::sheets::{command_or, is_fresh, keep, propose, submit};
-use tp_base::{ActorName, Duplicate, NoMemory, Rank, Site, Stamp};
+use tp_base::{ActorName, Duplicate, NoMemory, Rank, STAMP_LIMIT, Site, Stamp};
 use tp_ops::Command;
 use tp_rules::Outputs;
 use tp_wire::{Body, Message};
@@ -44,7 +45,7 @@ impl Process {
         ensures outputs { IfOk result (λ outputs. (s : ProcessState) → IsState self.old s → floor.0 < the_limit → outputs ≡ (with_room s (on_propose (ring_rule self.old.place.topology) self.old.place.site from command.now floor.0 s)).1) }
         ensures state { OnOk result ((s : ProcessState) → IsState self.old s → floor.0 < the_limit → IsState self.new (with_room s (on_propose (ring_rule self.old.place.topology) self.old.place.site from command.now floor.0 s)).0) }
     {
-        if LIMIT <= floor.0 || !self.takes_proposal(command) {
+        if STAMP_LIMIT <= floor.0 || !self.takes_proposal(command) {
             return Ok(self.nothing());
         }
         let stamp = self.clock.propose(floor.0);
@@ -91,7 +92,7 @@ impl Process {
     /// What the home sends of a command that is submitted.
     fn submission(&self, command: &Command, stamp: Stamp) -> Result<Outputs, NoMemory>
         requires { (1 ≤ command.now.home.0) × (command.now.home.0 ≤ self.now.place.topology.replicas) }
-        ensures { IfOk result (λ outputs. outputs ≡ proposals (ring_rule self.now.place.topology) self.now.place.site command.now stamp.0 ++ bumps self.now.place.topology self.now.place.site (kept_or command.now (kept_of self.now command.now.id).sheet) stamp.0) }
+        ensures { IfOk result (λ outputs. outputs ≡ proposals (ring_rule self.now.place.topology) self.now.place.site command.now stamp.0 ++ bumps self.now.place.topology self.now.place.site (kept_or command.now (sheet_of self.now command.now.id).sheet) stamp.0) }
     {
         let mut outputs = self.nothing();
         ask_for_proposals(&mut outputs, &self.place, command, stamp)?;
@@ -106,7 +107,7 @@ impl Process {
         command: &Command,
         stamp: Stamp,
     ) -> Result<Outputs, NoMemory>
-        ensures { IfOk result (λ outputs. outputs ≡ message (ActorName.Process self.now.place.site) from (Body.MProposeAck command.now.id stamp) ∷ bumps self.now.place.topology self.now.place.site (kept_or command.now (kept_of self.now command.now.id).sheet) stamp.0) }
+        ensures { IfOk result (λ outputs. outputs ≡ message (ActorName.Process self.now.place.site) from (Body.MProposeAck command.now.id stamp) ∷ bumps self.now.place.topology self.now.place.site (kept_or command.now (sheet_of self.now command.now.id).sheet) stamp.0) }
     {
         let mut outputs = self.nothing();
         outputs.add(Message {
@@ -130,7 +131,7 @@ impl Process {
         command: &Command,
         stamp: Stamp,
     ) -> Result<(), NoMemory>
-        ensures { OnOk result (outputs.new ≡ outputs.old ++ bumps self.now.place.topology self.now.place.site (kept_or command.now (kept_of self.now command.now.id).sheet) stamp.0) }
+        ensures { OnOk result (outputs.new ≡ outputs.old ++ bumps self.now.place.topology self.now.place.site (kept_or command.now (sheet_of self.now command.now.id).sheet) stamp.0) }
     {
         let kept = command_or(&self.sheets, &self.place, command);
         let names = counterparts(self.alloc, &self.place, kept)?;

@@ -46,15 +46,15 @@ stays state = record { contents = refl; executed = refl }
 row_stays : (me : Site) (from : ActorName) (body : Body) (state : executor.ExecutorState)
     → Stays state (executor.on_body me from body state).0
 row_stays me from (MPromises lo hi pairs) state =
-    cond_both (partition_of from == me.partition.0) _ (state, []) (λ (moved : executor.Moved). Stays state moved.0)
+    cond_both (partition_of from == me.partition.0) _ (state, []) (λ (moved : executor.Step). Stays state moved.0)
     (λ t. record { contents = refl; executed = refl }) (λ f. stays state)
 row_stays me from (MCommitted c t) state =
     cond_both (has same_id c.id (executor.committed_ids state)) (state, []) _
-    (λ (moved : executor.Moved). Stays state moved.0)
+    (λ (moved : executor.Step). Stays state moved.0)
     (λ t. stays state) (λ f. record { contents = refl; executed = refl })
 row_stays me from (MStable id) state =
     cond_both (not (partition_of from == me.partition.0)) _ (state, [])
-    (λ (moved : executor.Moved). Stays state moved.0)
+    (λ (moved : executor.Step). Stays state moved.0)
     (λ t. record { contents = refl; executed = refl }) (λ f. stays state)
 row_stays me from _ state = stays state
 
@@ -63,7 +63,7 @@ message_stays : (shape : Shape) (me : Site) (m : Message) (state : executor.Exec
     → Stays state (executor.react shape me (Took m) state).0
 message_stays shape me m state =
     cond_both (same_name m.to (Executor me) && is_name_of shape m.from && is_body_at shape me.partition.0 m.body)
-    (executor.on_body me m.from m.body state) (state, []) (λ (moved : executor.Moved). Stays state moved.0)
+    (executor.on_body me m.from m.body state) (state, []) (λ (moved : executor.Step). Stays state moved.0)
     (λ t. row_stays me m.from m.body state) (λ f. stays state)
 
 -- a declaration is one too

@@ -92,7 +92,7 @@ module _ (script : Script) (accepted : IsAccepted script) (id : CommandId) (c : 
       → (same_id d id && (q == p)) ≡ false → kept (session.on_result shape client d q answers state).0 ≡ kept state
   other_result d q answers state apart =
       let table : List (Option (List Answer)) = state.kept id.number in
-      cond_both (passes state d q answers) _ _ (λ (moved : session.Moved). kept moved.0 ≡ kept state)
+      cond_both (passes state d q answers) _ _ (λ (moved : session.Step). kept moved.0 ≡ kept state)
       (λ t. cond_both (id.number == d.number) (with_nth table q (Some answers)) table
       (λ (new : List (Option (List Answer))). kept_at new p ≡ kept state)
       (λ number. kept_elsewhere table q p answers (λ e. absurd (
@@ -124,7 +124,7 @@ module _ (script : Script) (accepted : IsAccepted script) (id : CommandId) (c : 
       (eq-eqb id.session.0 id.session.0 refl) (le-leb id.number state.submitted asked))
       (subst (λ (o : Option Command). session.is_awaited shape p answers table o ≡ true)
       (sym (command_at script accepted id ∙ is)) awaited) in
-      ap (λ (moved : session.Moved). kept moved.0) (cond-true (passes state id p answers) _ _ yes)
+      ap (λ (moved : session.Step). kept moved.0) (cond-true (passes state id p answers) _ _ yes)
       ∙ ap (λ (b : Bool). kept_at (cond b (with_nth table p (Some answers)) table) p) (eq-eqb id.number id.number refl)
       ∙ kept_here table p answers within.0 (omega (arith, within.1, places))
 
@@ -132,7 +132,7 @@ module _ (script : Script) (accepted : IsAccepted script) (id : CommandId) (c : 
   later_result : (answers old : List Answer) (state : session.SessionState) → kept state ≡ Some old
       → kept (session.on_result shape client id p answers state).0 ≡ Some old
   later_result answers old state some =
-      cond_both (passes state id p answers) _ _ (λ (moved : session.Moved). kept moved.0 ≡ Some old)
+      cond_both (passes state id p answers) _ _ (λ (moved : session.Step). kept moved.0 ≡ Some old)
       (λ t. absurd (awaits (nth client.commands id.number) (and_parts _ _ t).1))
       (λ f. some)
     where
@@ -173,15 +173,15 @@ module _ (script : Script) (accepted : IsAccepted script) (id : CommandId) (c : 
         let yes : b ≡ true =
         sym e ∙ and_from (is_name_of shape from) (is_body_at shape 0 (MResult d q answers)) accepts.named
         (is_between-from q.0 shape.partitions (omega (arith, here, within.0), omega (arith, here, within.1))) in
-        let moved : session.Moved = session.on_result shape client d q.0 answers state in
-        ap (λ (t : Bool). kept (cond {A = session.Moved} t moved (state, [])).0) yes
+        let moved : session.Step = session.on_result shape client d q.0 answers state in
+        ap (λ (t : Bool). kept (cond {A = session.Step} t moved (state, [])).0) yes
         ∙ ap (λ (i : CommandId). kept (session.on_result shape client i q.0 answers state).0) same
         ∙ ap (λ (k : ℕ). kept (session.on_result shape client id k answers state).0) here
         ∙ own_result answers state accepts.asked accepts.many places (kept state) refl
         ∙ ap (λ (t : Bool). option_or (kept state) (cond t (Some answers) None)) (sym own)
     | inr other ↦
         cond_both b (session.on_result shape client d q.0 answers state) (state, [])
-        (λ (moved : session.Moved). kept moved.0 ≡ kept state) (λ t. other_result d q.0 answers state other) (λ f. refl)
+        (λ (moved : session.Step). kept moved.0 ≡ kept state) (λ t. other_result d q.0 answers state other) (λ f. refl)
         ∙ sym (or_none (kept state))
         ∙ ap (λ (t : Bool). option_or (kept state) (cond t (Some answers) None)) (sym other)
   ]
@@ -226,7 +226,7 @@ module _ (script : Script) (accepted : IsAccepted script) (id : CommandId) (c : 
           let state = session_of script older id in
           let ours : same_name m.to (Session id.session) ≡ true =
           ap (λ (a : ActorName). same_name a (Session id.session)) to ∙ same_name_refl (Session id.session) in
-          ap (λ (b : Bool). kept (cond {A = session.Moved} (b && is_name_of shape m.from && is_body_at shape 0 m.body)
+          ap (λ (b : Bool). kept (cond {A = session.Step} (b && is_name_of shape m.from && is_body_at shape 0 m.body)
           (session.on_body shape client m.body state) (state, [])).0) ours
           ∙ body_kept m.from m.body state (has_places shape client (own_acts older) id.number)
           (accepts older m history (output_is_sent older entry place m found))

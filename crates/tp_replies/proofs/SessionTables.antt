@@ -37,7 +37,7 @@ module _ (shape : Shape) (client : Client) where
 
   row_has_places : (body : Body) (state : session.SessionState) → HasPlaces state
       → HasPlaces (session.on_body shape client body state).0
-  row_has_places (MResult id q answers) state places = cond_both _ _ _ (λ (moved : session.Moved). HasPlaces moved.0)
+  row_has_places (MResult id q answers) state places = cond_both _ _ _ (λ (moved : session.Step). HasPlaces moved.0)
       (λ t n. cond_both (n == id.number) (with_nth (state.kept n) q.0 (Some answers)) (state.kept n)
       (λ (table : List (Option (List Answer))). length table ≡ shape.partitions)
       (λ here. length_with (state.kept n) q.0 (Some answers) ∙ places n) (λ there. places n))
@@ -49,7 +49,7 @@ module _ (shape : Shape) (client : Client) where
   has_places (Took m ∷ before) =
       let state = session.state_after shape client before in
       cond_both _ (session.on_body shape client m.body state) (state, [])
-      (λ (moved : session.Moved). HasPlaces moved.0)
+      (λ (moved : session.Step). HasPlaces moved.0)
       (λ t. row_has_places m.body state (has_places before)) (λ f. has_places before)
   has_places (Did (Submit n) ∷ before) = has_places before
   has_places (Did _ ∷ before) = has_places before

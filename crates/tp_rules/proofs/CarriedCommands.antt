@@ -3,6 +3,7 @@
 use Rattle.std.proofs.Common.{◌≡◌, ℕ, List, [], ◌∷◌, Option, Some, None, cond, refl, sym, subst}
 use Rattle.std.specs.Prelude.{◌==◌, ◌&&◌, nat_lt, not, is_none, is_some, unwrap_or}
 use Rattle.std.proofs.lemmas.Bool.{cond_both}
+use Rattle.tp_base.specs.Limits.{STAMP_LIMIT}
 use Rattle.tp_base.specs.Lists.{Each, IsIn, has}
 use Rattle.tp_base.specs.Names.{same_id, same_name}
 use Rattle.tp_base.proofs.SameNames.{same_id_is}
@@ -22,7 +23,7 @@ use Rattle.tp_rules.specs.Addresses.{rank_of, partition_of, is_name_of, is_body_
 use Rattle.tp_rules.specs.Executor as executor
 use Rattle.tp_rules.specs.Process as process
 use Rattle.tp_rules.specs.Session as session
-use Rattle.tp_rules.specs.Sheet.{Sheet, QuorumRule, blank, stamp_of, is_fresh, kept, with_proposal, can_acknowledge, acknowledged, acknowledged_own, is_full, putting, can_accept, with_accepted, can_vote, with_vote, has_consensus, is_untouched, with_ballot, trying, can_answer, with_answer, is_recovered, with_stamp, final_stamp}
+use Rattle.tp_rules.specs.Sheet.{Sheet, QuorumRule, blank, stamp_of, is_fresh, with_command, with_proposal, can_acknowledge, acknowledged, acknowledged_own, is_full, putting, can_accept, with_accepted, can_vote, with_vote, has_consensus, is_untouched, with_ballot, trying, can_answer, with_answer, is_recovered, with_stamp, final_stamp}
 use Rattle.tp_rules.specs.Tables.{nth}
 use Rattle.tp_rules.specs.declared.event.Inner.TheVariants.{Submit, Recover, Announce, Declare, Execute, Crash}
 use Rattle.tp_topology.specs.Ballots.{next_ballot}
@@ -86,7 +87,7 @@ module _ (P : Command → Type 0) where
       cond_both (can_acknowledge s p own own sheet) (acknowledged own t sheet) sheet (λ (x : Sheet). x.command ≡ sheet.command) (λ e. refl)
       (λ e. refl)
 
-  abbrev Kept : process.Moved → Type 0
+  abbrev Kept : process.Step → Type 0
   Kept moved = KeepsOnly P moved.0
 
   finished_keeps : (me : Site) (id : CommandId) (sheet : Sheet) (o : Option Command) (final : Option ℕ) (state : process.ProcessState) →
@@ -105,10 +106,10 @@ module _ (P : Command → Type 0) where
       (λ e. put_sheet state.sheets id sheet k h)
       (λ e. finished_keeps me id known known.command final state (put_sheet state.sheets id known k h))
 
-  chosen_keeps : (s : QuorumRule) (me : Site) (id : CommandId) (choice : FastChoice) (sheet : Sheet) (state : process.ProcessState) →
-      KeepsOnly P state → Keeps P id sheet.command → Kept (process.chosen s me id choice sheet state)
-  chosen_keeps s me id (Fast t) sheet state h k = learned_keeps s.shape me id me.partition.0 t.0 sheet state h k
-  chosen_keeps s me id (Slow t) sheet state h k = put_sheet state.sheets id (putting s.shape me.rank.0 t.0 sheet) k h
+  follow_choice_keeps : (s : QuorumRule) (me : Site) (id : CommandId) (choice : FastChoice) (sheet : Sheet) (state : process.ProcessState) →
+      KeepsOnly P state → Keeps P id sheet.command → Kept (process.follow_choice s me id choice sheet state)
+  follow_choice_keeps s me id (Fast t) sheet state h k = learned_keeps s.shape me id me.partition.0 t.0 sheet state h k
+  follow_choice_keeps s me id (Slow t) sheet state h k = put_sheet state.sheets id (putting s.shape me.rank.0 t.0 sheet) k h
 
   voted_keeps : (s : QuorumRule) (me : Site) (id : CommandId) (sheet : Sheet) (state : process.ProcessState) →
       KeepsOnly P state → Keeps P id sheet.command → Kept (process.voted s me id sheet state)
@@ -117,16 +118,16 @@ module _ (P : Command → Type 0) where
       (λ e. learned_keeps s.shape me id me.partition.0 sheet.putting_stamp sheet state h k) (λ e. put_sheet state.sheets id sheet k h)
 
   rec_keeps : (s : QuorumRule) (me : Site) (from : ActorName) (c : Command) (b : ℕ) (o : Option ℕ) (state : process.ProcessState) →
-      KeepsOnly P state → P c → Kept (process.on_rec_by s me from c b o state)
+      KeepsOnly P state → P c → Kept (process.on_rec_by_stamp s me from c b o state)
   rec_keeps s me from c b (Some t) state h p = h
   rec_keeps s me from c b None state h p =
       let sheet = state.sheets c.id in
       let t = process.next_stamp 0 state in
       let more = keeps_more c.id c sheet.command p refl (h c.id) in
-      cond_both (nat_lt sheet.ballot b && nat_lt b process.LIMIT) (process.joined s me from c b sheet state) (state, []) Kept
-      (λ e. cond_both (is_untouched sheet) (process.proposed_late s me from c b t sheet state) (process.agreed me from c b sheet state) Kept
-      (λ late. put_sheet state.sheets c.id (with_ballot b (with_proposal t Recovery (kept c sheet))) more h)
-      (λ not_late. put_sheet state.sheets c.id (with_ballot b (kept c sheet)) more h))
+      cond_both (nat_lt sheet.ballot b && nat_lt b STAMP_LIMIT) (process.answer_recovery s me from c b sheet state) (state, []) Kept
+      (λ e. cond_both (is_untouched sheet) (process.propose_and_answer s me from c b t sheet state) (process.answer_with_old_proposal me from c b sheet state) Kept
+      (λ late. put_sheet state.sheets c.id (with_ballot b (with_proposal t Recovery (with_command c sheet))) more h)
+      (λ not_late. put_sheet state.sheets c.id (with_ballot b (with_command c sheet)) more h))
       (λ e. h)
 
   put_recovered_keeps : (s : QuorumRule) (me : Site) (id : CommandId) (b : ℕ) (o : Option Command) (sheet : Sheet) (state : process.ProcessState) →
@@ -147,7 +148,7 @@ module _ (P : Command → Type 0) where
   row_keeps s me from (MSubmit c) state h p =
       let sheet = state.sheets c.id in
       let t = process.next_stamp 0 state in
-      let next = with_proposal t Proposal (kept c sheet) in
+      let next = with_proposal t Proposal (with_command c sheet) in
       cond_both ((c.home.0 == me.rank.0) && is_fresh me.partition.0 sheet) (process.submitted s me c t sheet state) (state, []) Kept
       (λ e. put_sheet state.sheets c.id (acknowledged_own s me.partition.0 me.rank.0 t next)
       (subst (Keeps P c.id) (sym (own_command s me.partition.0 me.rank.0 t next)) (keeps_more c.id c sheet.command p refl (h c.id))) h)
@@ -155,29 +156,29 @@ module _ (P : Command → Type 0) where
   row_keeps s me from (MPropose c floor) state h p =
       let sheet = state.sheets c.id in
       let t = process.next_stamp floor.0 state in
-      cond_both (is_fresh me.partition.0 sheet) (process.proposed s me from c t sheet state) (state, []) Kept
-      (λ e. put_sheet state.sheets c.id (with_proposal t Proposal (kept c sheet)) (keeps_more c.id c sheet.command p refl (h c.id)) h)
+      cond_both (is_fresh me.partition.0 sheet) (process.propose_and_acknowledge s me from c t sheet state) (state, []) Kept
+      (λ e. put_sheet state.sheets c.id (with_proposal t Proposal (with_command c sheet)) (keeps_more c.id c sheet.command p refl (h c.id)) h)
       (λ e. h)
   row_keeps s me from (MPayload c) state h p =
       let sheet = state.sheets c.id in
-      put_sheet state.sheets c.id (kept c sheet) (keeps_more c.id c sheet.command p refl (h c.id)) h
+      put_sheet state.sheets c.id (with_command c sheet) (keeps_more c.id c sheet.command p refl (h c.id)) h
   row_keeps s me from (MProposeAck id t) state h p =
       let rank = rank_of from in
       let sheet = acknowledged rank t.0 (state.sheets id) in
       let choice = fast_choice s.shape (present sheet.acknowledged) in
-      cond_both (can_acknowledge s me.partition.0 me.rank.0 rank (state.sheets id)) (process.gathered s me id sheet state) (state, []) Kept
-      (λ e. cond_both (is_full s.shape sheet) (process.chosen s me id choice sheet state) (process.with_sheet id sheet state, []) Kept
-      (λ full. chosen_keeps s me id choice sheet state h (h id)) (λ full. put_sheet state.sheets id sheet (h id) h))
+      cond_both (can_acknowledge s me.partition.0 me.rank.0 rank (state.sheets id)) (process.conclude_fast_path s me id sheet state) (state, []) Kept
+      (λ e. cond_both (is_full s.shape sheet) (process.follow_choice s me id choice sheet state) (process.with_sheet id sheet state, []) Kept
+      (λ full. follow_choice_keeps s me id choice sheet state h (h id)) (λ full. put_sheet state.sheets id sheet (h id) h))
       (λ e. h)
   row_keeps s me from (MCommit c q t) state h p =
-      let sheet = kept c (state.sheets c.id) in
+      let sheet = with_command c (state.sheets c.id) in
       cond_both (is_accessed s.shape.partitions c q.0) (process.learned s.shape me c.id q.0 t.0 sheet state) (state, []) Kept
       (λ e. learned_keeps s.shape me c.id q.0 t.0 sheet state h (keeps_more c.id c (state.sheets c.id).command p refl (h c.id))) (λ e. h)
   row_keeps s me from (MBump id t) state h p = h
   row_keeps s me from (MConsensus c t b) state h p =
       let sheet = state.sheets c.id in
-      cond_both (can_accept me.partition.0 b sheet && nat_lt b process.LIMIT) (process.accepted me from c t.0 b sheet state) (state, []) Kept
-      (λ e. put_sheet state.sheets c.id (with_accepted b t.0 (kept c sheet)) (keeps_more c.id c sheet.command p refl (h c.id)) h)
+      cond_both (can_accept me.partition.0 b sheet && nat_lt b STAMP_LIMIT) (process.accept_and_vote me from c t.0 b sheet state) (state, []) Kept
+      (λ e. put_sheet state.sheets c.id (with_accepted b t.0 (with_command c sheet)) (keeps_more c.id c sheet.command p refl (h c.id)) h)
       (λ e. h)
   row_keeps s me from (MConsensusAck id b) state h p =
       let sheet = with_vote (rank_of from) (state.sheets id) in
@@ -202,7 +203,7 @@ module _ (P : Command → Type 0) where
       let moved = process.on_body s me m.from m.body state in
       cond_both (same_name m.to (Process me) && is_name_of s.shape m.from && is_body_at s.shape me.partition.0 m.body)
       (process.with_room state moved) (state, []) Kept
-      (λ e. cond_both (nat_lt moved.0.clock process.LIMIT) moved (state, []) Kept (λ room. row_keeps s me m.from m.body state h p) (λ room. h))
+      (λ e. cond_both (nat_lt moved.0.clock STAMP_LIMIT) moved (state, []) Kept (λ room. row_keeps s me m.from m.body state h p) (λ room. h))
       (λ e. h)
 
   process_keeps : (s : QuorumRule) (me : Site) (act : Act) (state : process.ProcessState) → KeepsOnly P state → Takes P act →
@@ -237,7 +238,7 @@ module _ (P : Command → Type 0) where
   row_sends s me from (MCommit c q t) state h p =
       let sheet = state.sheets c.id in
       on_commit_sends Passes me s c q.0 t.0 state
-      (λ d t e. kept_passes c.id (kept c sheet).command d (keeps_more c.id c sheet.command p refl (h c.id)) e)
+      (λ d t e. kept_passes c.id (with_command c sheet).command d (keeps_more c.id c sheet.command p refl (h c.id)) e)
   row_sends s me from (MBump id t) state h p = tt
   row_sends s me from (MConsensus c t b) state h p = on_consensus_sends Passes me from c t.0 b state tt
   row_sends s me from (MConsensusAck id b) state h p =
@@ -268,7 +269,7 @@ module _ (P : Command → Type 0) where
   process_sends_only s me (Did (Execute id)) state h p = tt
   process_sends_only s me (Did Crash) state h p = tt
 
-  abbrev Commits : executor.Moved → Type 0
+  abbrev Commits : executor.Step → Type 0
   Commits moved = CommitsOnly P moved.0
 
   executor_row : (me : Site) (from : ActorName) (body : Body) (state : executor.ExecutorState) →

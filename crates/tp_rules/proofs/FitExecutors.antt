@@ -23,7 +23,7 @@ use Rattle.tp_rules.proofs.Fit.{IsBodyOf, IsCommandHere, IsExecutorOf, IsFit, Is
 use Rattle.tp_rules.proofs.Selections.{IfAny, each_filter, each_image, each_spread, filter_shorter, filter_some}
 use Rattle.tp_rules.specs.Acts.{Act, Took, Did}
 use Rattle.tp_rules.specs.Addresses.{executors_of, is_between, is_body_at, is_name_of, is_site_of, message, others_accessed, partition_of, rank_of}
-use Rattle.tp_rules.specs.Executor.{Committed, ExecutorState, Moved, committed_ids, declarations, declare_least, execute_least, executed, least, lesser, on_body, on_committed, on_promises, on_stable, react, state_after, waiting}
+use Rattle.tp_rules.specs.Executor.{Committed, ExecutorState, Step, committed_ids, declarations, declare_least, execute_least, executed, least, lesser, on_body, on_committed, on_promises, on_stable, react, state_after, waiting}
 use Rattle.tp_rules.specs.declared.event.Inner.TheVariants.{Announce, Declare, Execute}
 use Rattle.tp_script.specs.Accepted.{IsAccepted, IsCommandOf}
 use Rattle.tp_script.specs.declared.script.Script.{Script}
@@ -96,7 +96,7 @@ module _ (script : Script) (accepted : IsAccepted script) (me : Site) (here : is
     pub committed : Each IsOurs state.committed
     pub contents : HasValues state.contents
 
-  abbrev pub Goes : Moved → Type 0
+  abbrev pub Goes : Step → Type 0
   Goes moved = IsSound moved.0 × Each (IsFit script) moved.1
 
   least_ours : (cs : List Committed) → Each IsOurs cs → IfAny IsOurs (least cs)

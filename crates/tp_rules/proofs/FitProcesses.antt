@@ -6,6 +6,7 @@ use Rattle.std.specs.Prelude.{is_none, nat_lt, unwrap_or}
 use Rattle.tp_base.proofs.Each.{each_in, each_of}
 use Rattle.tp_base.proofs.Members.{in_map}
 use Rattle.tp_base.proofs.SameNames.{same_id_is, same_id_refl}
+use Rattle.tp_base.specs.Limits.{STAMP_LIMIT}
 use Rattle.tp_base.specs.Lists.{Each, IsIn}
 use Rattle.tp_base.specs.Names.{same_id}
 use Rattle.tp_base.specs.declared.names.CommandId.{CommandId}
@@ -19,15 +20,15 @@ use Rattle.tp_rules.proofs.FitChoices.{AreAnswers, answered, unanswered}
 use Rattle.tp_rules.proofs.FitPromises.{Descends, descends_higher}
 use Rattle.tp_rules.proofs.FitStamps.{with_fit}
 use Rattle.tp_rules.proofs.Selections.{IfAny, each_replicate}
-use Rattle.tp_rules.specs.Process.{LIMIT, ProcessState, bumped, proposing, start, with_sheet}
-use Rattle.tp_rules.specs.Sheet.{Proposed, Sheet, acknowledged, blank, command_or, is_untouched, kept, putting, stamp_proposed, stamp_told, trying, with_accepted, with_answer, with_ballot, with_proposal, with_stamp, with_vote}
+use Rattle.tp_rules.specs.Process.{ProcessState, bumped, proposing, start, with_sheet}
+use Rattle.tp_rules.specs.Sheet.{Proposed, Sheet, acknowledged, blank, command_or, is_untouched, with_command, putting, stamp_proposed, stamp_told, trying, with_accepted, with_answer, with_ballot, with_proposal, with_stamp, with_vote}
 use Rattle.tp_script.specs.declared.script.Script.{Script}
 use Rattle.tp_wire.specs.Ranges.{IsNumber}
 
 -- what is proposed and accepted is in range, and where a ballot was agreed to, something is proposed or accepted
 pub record IsAcceptorSound (proposal : Option Proposed) (ballot accepted_at stamp : ℕ) : Type 0 where
   pub proposed : IfAny (λ q. IsNumber q.stamp) proposal
-  pub low : accepted_at < LIMIT
+  pub low : accepted_at < STAMP_LIMIT
   pub accepted : 1 ≤ accepted_at → IsNumber stamp
   pub touched : 1 ≤ ballot → accepted_at ≡ 0 → is_none proposal ≡ false
 
@@ -45,7 +46,7 @@ ids_of script = map (λ c. c.id) script.commands
 
 -- each attached promise is for a command of the script, none twice, and its command has a proposal
 pub record IsProcessSound (script : Script) (p : ℕ) (state : ProcessState) : Type 0 where
-  pub clock : state.clock < LIMIT
+  pub clock : state.clock < STAMP_LIMIT
   pub promises : Descends state.clock state.attached
   pub ours : Each (λ pair. IsIn pair.id (ids_of script)) state.attached
   pub once : Distinct (map (λ pair. pair.id) state.attached)
@@ -89,7 +90,7 @@ module _ (script : Script) (p : ℕ) where
       of_kept None h = here
       of_kept (Some d) h = h
 
-  pub kept_sound : (c : Command) (sheet : Sheet) → IsCommandHere script p c → IsSheetSound script p sheet → IsSheetSound script p (kept c sheet)
+  pub kept_sound : (c : Command) (sheet : Sheet) → IsCommandHere script p c → IsSheetSound script p sheet → IsSheetSound script p (with_command c sheet)
   kept_sound c sheet here sound = record {
     command = command_or_here c sheet here sound;
     known = sound.known;
@@ -256,7 +257,7 @@ module _ (script : Script) (p : ℕ) where
     sheets = λ other. at_id (IsSheetSound script p) state.sheets id other sheet (λ e. new) (sound.sheets other);
   }
 
-  pub bumped_sound : (t : ℕ) (state : ProcessState) → IsProcessSound script p state → max t state.clock < LIMIT
+  pub bumped_sound : (t : ℕ) (state : ProcessState) → IsProcessSound script p state → max t state.clock < STAMP_LIMIT
       → IsProcessSound script p (bumped t state)
   bumped_sound t state sound room = record {
     clock = room;
@@ -269,7 +270,7 @@ module _ (script : Script) (p : ℕ) where
 
   -- a command without a proposal gets one at a stamp above the clock
   pub proposing_sound : (id : CommandId) (t : ℕ) (sheet : Sheet) (state : ProcessState) → IsProcessSound script p state
-      → t < LIMIT → state.clock < t → IsIn id (ids_of script) → is_none (state.sheets id).proposal ≡ true
+      → t < STAMP_LIMIT → state.clock < t → IsIn id (ids_of script) → is_none (state.sheets id).proposal ≡ true
       → IsSheetSound script p sheet → is_none sheet.proposal ≡ false → IsProcessSound script p (proposing id t sheet state)
   proposing_sound id t sheet state sound room above ours fresh new proposed =
       let was : (pair : Pair) → IsIn pair state.attached → is_none (state.sheets pair.id).proposal ≡ false =

@@ -4,7 +4,7 @@ use Rattle.std.proofs.lemmas.Bool.{and_parts, cond_both, eqb-true, ltb-true}
 use Rattle.std.specs.Prelude.{is_none, is_some, nat_lt, slice_get, ◌==◌, ◌&&◌}
 use Rattle.tp_base.proofs.Each.{each_append, each_in}
 use Rattle.tp_base.proofs.Members.{map_in}
-use Rattle.tp_base.specs.Limits.{IsFrom}
+use Rattle.tp_base.specs.Limits.{IsFrom, STAMP_LIMIT}
 use Rattle.tp_base.specs.Lists.{Each, IsIn}
 use Rattle.tp_base.specs.Names.{same_name}
 use Rattle.tp_base.specs.declared.names.ActorName.{ActorName}
@@ -25,13 +25,13 @@ use Rattle.tp_quorum.specs.declared.choice.FastChoice.TheVariants.{Fast, Slow}
 use Rattle.tp_rules.proofs.Fit.{IsBodyOf, IsCommandHere, IsFit, IsFitAct, IsProcessOf, known_process}
 use Rattle.tp_rules.proofs.FitChoices.{HasFastSize, next_ballot_number, recovery_number}
 use Rattle.tp_rules.proofs.FitProcesses.{IsProcessSound, IsSheetSound, acknowledged_sound, bumped_sound, command_or_here, ids_of, kept_sound, proposing_sound, putting_sound, stamp_told_number, start_sound, touched_before, trying_sound, with_accepted_sound, with_answer_sound, with_ballot_sound, with_proposal_sound, with_sheet_sound, with_stamp_sound, with_vote_sound}
-use Rattle.tp_rules.proofs.FitSends.{announced_fit, asked_fit, bumps_fit, commits_fit, is_command, own_ballot, own_partition, own_site, proposals_fit, quorum_rule_of, told_fit, votes_fit}
+use Rattle.tp_rules.proofs.FitSends.{announced_fit, asked_fit, bumps_fit, commit_messages_fit, is_command, own_ballot, own_partition, own_site, proposals_fit, quorum_rule_of, commit_reply_fit, votes_fit}
 use Rattle.tp_rules.proofs.FitStamps.{IsChoiceInRange, choice_number, final_number, kept_fit, present_fit}
 use Rattle.tp_rules.proofs.Selections.{IfAny, each_get}
 use Rattle.tp_rules.specs.Acts.{Act, Took, Did}
 use Rattle.tp_rules.specs.Addresses.{is_between, is_body_at, is_name_of, is_site_of, rank_of}
-use Rattle.tp_rules.specs.Process.{LIMIT, Moved, ProcessState, accepted as acceptance, agreed, announced, answer, bumps, chosen, commits, decided, finished, gathered, has_next, joined, learned, next_stamp, on_announce, on_body, on_commit, on_consensus, on_consensus_ack, on_payload, on_propose, on_propose_ack, on_rec, on_rec_ack, on_rec_by, on_recover, on_submit, proposals, proposed, proposed_late, put_recovered, react, recovered, recovering, state_after, submitted, voted, with_room, with_sheet}
-use Rattle.tp_rules.specs.Sheet.{QuorumRule, Sheet, acknowledged, acknowledged_own, can_accept, can_acknowledge, can_answer, can_vote, command_or, final_stamp, has_consensus, is_fresh, is_full, is_recovered, is_untouched, kept, putting, stamp_of, trying, with_accepted, with_answer, with_ballot, with_proposal, with_stamp, with_vote}
+use Rattle.tp_rules.specs.Process.{Step, ProcessState, accept_and_vote, answer_with_old_proposal, announced, answer, bumps, follow_choice, commit_messages, decided, finished, conclude_fast_path, has_next, answer_recovery, learned, next_stamp, on_announce, on_body, on_commit, on_consensus, on_consensus_ack, on_payload, on_propose, on_propose_ack, on_rec, on_rec_ack, on_rec_by_stamp, on_recover, on_submit, proposals, propose_and_acknowledge, propose_and_answer, put_recovered, react, recovered, recovering, state_after, submitted, voted, with_room, with_sheet}
+use Rattle.tp_rules.specs.Sheet.{QuorumRule, Sheet, acknowledged, acknowledged_own, can_accept, can_acknowledge, can_answer, can_vote, command_or, final_stamp, has_consensus, is_fresh, is_full, is_recovered, is_untouched, with_command, putting, stamp_of, trying, with_accepted, with_answer, with_ballot, with_proposal, with_stamp, with_vote}
 use Rattle.tp_rules.specs.declared.event.Inner.TheVariants.{Announce, Recover}
 use Rattle.tp_script.specs.Accepted.{IsAccepted, IsCommandOf, IsHome}
 use Rattle.tp_script.specs.declared.script.Script.{Script}
@@ -56,16 +56,16 @@ module _ (script : Script) (accepted : IsAccepted script) (in_quorum : Command �
   IsHere c = IsCommandHere script me.partition.0 c
 
   -- what is kept stays in order, and what is sent is fit
-  abbrev pub IsSettled : Moved → Type 0
+  abbrev pub IsSettled : Step → Type 0
   IsSettled moved = IsSound moved.0 × Each (IsFit script) moved.1
 
   -- where there is room
-  abbrev Goes : Moved → Type 0
-  Goes moved = moved.0.clock < LIMIT → IsSettled moved
+  abbrev Goes : Step → Type 0
+  Goes moved = moved.0.clock < STAMP_LIMIT → IsSettled moved
 
-  room_fit : (state : ProcessState) (moved : Moved) → IsSound state → Goes moved → IsSettled (with_room state moved)
+  room_fit : (state : ProcessState) (moved : Step) → IsSound state → Goes moved → IsSettled (with_room state moved)
   room_fit state moved sound goes =
-      cond_both (nat_lt moved.0.clock LIMIT) moved (state, []) IsSettled (λ t. goes (ltb-true moved.0.clock LIMIT t)) (λ f. (sound, tt))
+      cond_both (nat_lt moved.0.clock STAMP_LIMIT) moved (state, []) IsSettled (λ t. goes (ltb-true moved.0.clock STAMP_LIMIT t)) (λ f. (sound, tt))
 
   -- a stamp is learned and decided
 
@@ -101,30 +101,30 @@ module _ (script : Script) (accepted : IsAccepted script) (in_quorum : Command �
   decided_fit : (id : CommandId) (t : ℕ) (sheet : Sheet) (state : ProcessState) → IsSound state → IsSheet sheet
       → sheet.proposal ≡ (state.sheets id).proposal → IsNumber t → Goes (decided script.topology me id t sheet state)
   decided_fit id t sheet state sound new same number room =
-      let moved : Moved = learned script.topology me id me.partition.0 t sheet state in
+      let moved : Step = learned script.topology me id me.partition.0 t sheet state in
       let settled : IsSettled moved = learned_fit id me.partition.0 t sheet state sound new same number room in (
         settled.0,
-        each_append (IsFit script) (commits script.topology me sheet.command t) moved.1
-            (commits_fit script accepted in_quorum me here sheet.command t new.command number) settled.1,
+        each_append (IsFit script) (commit_messages script.topology me sheet.command t) moved.1
+            (commit_messages_fit script accepted in_quorum me here sheet.command t new.command number) settled.1,
       )
 
-  chosen_fit : (id : CommandId) (choice : FastChoice) (sheet : Sheet) (state : ProcessState) → IsSound state → IsSheet sheet
-      → sheet.proposal ≡ (state.sheets id).proposal → IsChoiceInRange choice → Goes (chosen quorum_rule me id choice sheet state)
-  chosen_fit id (Fast t) sheet state sound new same number room = decided_fit id t.0 sheet state sound new same number room
-  chosen_fit id (Slow t) sheet state sound new same number room = (
+  follow_choice_fit : (id : CommandId) (choice : FastChoice) (sheet : Sheet) (state : ProcessState) → IsSound state → IsSheet sheet
+      → sheet.proposal ≡ (state.sheets id).proposal → IsChoiceInRange choice → Goes (follow_choice quorum_rule me id choice sheet state)
+  follow_choice_fit id (Fast t) sheet state sound new same number room = decided_fit id t.0 sheet state sound new same number room
+  follow_choice_fit id (Slow t) sheet state sound new same number room = (
     with_sheet_sound script me.partition.0 id (putting script.topology me.rank.0 t.0 sheet) state sound
         (putting_sound script me.partition.0 me.rank.0 t.0 sheet number new) same,
     votes_fit script accepted in_quorum me here me.rank.0 t.0 sheet.command new.command (own_ballot script accepted in_quorum me here) number,
   )
 
-  gathered_fit : (id : CommandId) (sheet : Sheet) (state : ProcessState) → IsSound state → IsSheet sheet
-      → sheet.proposal ≡ (state.sheets id).proposal → Goes (gathered quorum_rule me id sheet state)
-  gathered_fit id sheet state sound new same =
+  conclude_fast_path_fit : (id : CommandId) (sheet : Sheet) (state : ProcessState) → IsSound state → IsSheet sheet
+      → sheet.proposal ≡ (state.sheets id).proposal → Goes (conclude_fast_path quorum_rule me id sheet state)
+  conclude_fast_path_fit id sheet state sound new same =
       let choice : FastChoice = fast_choice script.topology (present sheet.acknowledged) in
-      cond_both (is_full script.topology sheet) (chosen quorum_rule me id choice sheet state) (with_sheet id sheet state, []) Goes
+      cond_both (is_full script.topology sheet) (follow_choice quorum_rule me id choice sheet state) (with_sheet id sheet state, []) Goes
       (λ full.
       let as_many : length (present sheet.acknowledged) ≡ fast_size script.topology = eqb-true _ _ full in
-      chosen_fit id choice sheet state sound new same
+      follow_choice_fit id choice sheet state sound new same
       (choice_number script.topology (present sheet.acknowledged) (present_fit IsNumber sheet.acknowledged new.acknowledged)
       (omega (arith, accepted.shape.some_failure))))
       (λ not_full room. (with_sheet_sound script me.partition.0 id sheet state sound new same, tt))
@@ -136,15 +136,15 @@ module _ (script : Script) (accepted : IsAccepted script) (in_quorum : Command �
   propose_ack_fit from id t state sound number =
       let sheet : Sheet = acknowledged (rank_of from) t (state.sheets id) in
       cond_both (can_acknowledge quorum_rule me.partition.0 me.rank.0 (rank_of from) (state.sheets id))
-      (gathered quorum_rule me id sheet state) (state, []) Goes
-      (λ can. gathered_fit id sheet state sound
+      (conclude_fast_path quorum_rule me id sheet state) (state, []) Goes
+      (λ can. conclude_fast_path_fit id sheet state sound
       (acknowledged_sound script me.partition.0 (rank_of from) t (state.sheets id) number (sound.sheets id)) refl)
       (λ cannot room. (sound, tt))
 
   commit_fit : (c : Command) (q t : ℕ) (state : ProcessState) → IsSound state → IsHere c → IsNumber t
       → Goes (on_commit quorum_rule me c q t state)
   commit_fit c q t state sound ours number =
-      let sheet : Sheet = kept c (state.sheets c.id) in
+      let sheet : Sheet = with_command c (state.sheets c.id) in
       cond_both (is_accessed script.topology.partitions c q) (learned script.topology me c.id q t sheet state) (state, []) Goes
       (λ accesses. learned_fit c.id q t sheet state sound (kept_sound script me.partition.0 c (state.sheets c.id) ours (sound.sheets c.id)) refl number)
       (λ elsewhere room. (sound, tt))
@@ -153,11 +153,11 @@ module _ (script : Script) (accepted : IsAccepted script) (in_quorum : Command �
       → IsNumber t → IsNumber b → Goes (on_consensus me from c t b state)
   consensus_fit from c t b state sound is_process ours number ballot =
       let old : Sheet = state.sheets c.id in
-      let sheet : Sheet = with_accepted b t (kept c old) in
-      let new : IsSheet sheet = with_accepted_sound script me.partition.0 b t (kept c old) ballot number
+      let sheet : Sheet = with_accepted b t (with_command c old) in
+      let new : IsSheet sheet = with_accepted_sound script me.partition.0 b t (with_command c old) ballot number
       (kept_sound script me.partition.0 c old ours (sound.sheets c.id)) in
       let range : IsCommand c = is_command script accepted in_quorum me here c ours in
-      cond_both (can_accept me.partition.0 b old && nat_lt b LIMIT) (acceptance me from c t b old state) (state, []) Goes
+      cond_both (can_accept me.partition.0 b old && nat_lt b STAMP_LIMIT) (accept_and_vote me from c t b old state) (state, []) Goes
       (λ can room. (
         bumped_sound script me.partition.0 t (with_sheet c.id sheet state)
             (with_sheet_sound script me.partition.0 c.id sheet state sound new refl) room,
@@ -193,13 +193,13 @@ module _ (script : Script) (accepted : IsAccepted script) (in_quorum : Command �
 
   payload_fit : (c : Command) (state : ProcessState) → IsSound state → IsHere c → Goes (on_payload c state)
   payload_fit c state sound ours room = (
-    with_sheet_sound script me.partition.0 c.id (kept c (state.sheets c.id)) state sound
+    with_sheet_sound script me.partition.0 c.id (with_command c (state.sheets c.id)) state sound
         (kept_sound script me.partition.0 c (state.sheets c.id) ours (sound.sheets c.id)) refl,
     tt,
   )
 
   -- the stamp of a proposal is in range where there is room
-  stamp_number : (floor : ℕ) (state : ProcessState) → next_stamp floor state < LIMIT → IsNumber (next_stamp floor state)
+  stamp_number : (floor : ℕ) (state : ProcessState) → next_stamp floor state < STAMP_LIMIT → IsNumber (next_stamp floor state)
   stamp_number floor state room = (omega arith, omega arith)
 
   id_ours : (c : Command) → IsHere c → IsIn c.id (ids_of script)
@@ -207,9 +207,9 @@ module _ (script : Script) (accepted : IsAccepted script) (in_quorum : Command �
 
   -- the sheet of a proposal
   proposal_sound : (c : Command) (t : ℕ) (made : Made) (sheet : Sheet) → IsHere c → IsNumber t → IsSheet sheet
-      → IsSheet (with_proposal t made (kept c sheet))
+      → IsSheet (with_proposal t made (with_command c sheet))
   proposal_sound c t made sheet ours number sound =
-      with_proposal_sound script me.partition.0 t made (kept c sheet) number (kept_sound script me.partition.0 c sheet ours sound)
+      with_proposal_sound script me.partition.0 t made (with_command c sheet) number (kept_sound script me.partition.0 c sheet ours sound)
 
   no_proposal : (c : Command) (state : ProcessState) → is_fresh me.partition.0 (state.sheets c.id) ≡ true
       → is_none (state.sheets c.id).proposal ≡ true
@@ -224,7 +224,7 @@ module _ (script : Script) (accepted : IsAccepted script) (in_quorum : Command �
       let t : ℕ = next_stamp 0 state in
       let number : IsNumber t = stamp_number 0 state room in
       let sheet : Sheet = state.sheets c.id in
-      let proposal : Sheet = with_proposal t Proposal (kept c sheet) in
+      let proposal : Sheet = with_proposal t Proposal (with_command c sheet) in
       let own : Sheet = acknowledged_own quorum_rule me.partition.0 me.rank.0 t proposal in
       let can : Bool = can_acknowledge quorum_rule me.partition.0 me.rank.0 me.rank.0 proposal in
       let new : IsSheet proposal = proposal_sound c t Proposal sheet ours number (sound.sheets c.id) in
@@ -247,15 +247,15 @@ module _ (script : Script) (accepted : IsAccepted script) (in_quorum : Command �
       (λ t. submitted_fit c state sound ours (no_proposal c state (and_parts (c.home.0 == me.rank.0) fresh t).1))
       (λ f room. (sound, tt))
 
-  proposed_fit : (from : ActorName) (c : Command) (floor : ℕ) (state : ProcessState) → IsSound state → IsProcessOf script from → IsHere c
+  propose_and_acknowledge_fit : (from : ActorName) (c : Command) (floor : ℕ) (state : ProcessState) → IsSound state → IsProcessOf script from → IsHere c
       → is_none (state.sheets c.id).proposal ≡ true
-      → Goes (proposed quorum_rule me from c (next_stamp floor state) (state.sheets c.id) state)
-  proposed_fit from c floor state sound is_process ours fresh room =
+      → Goes (propose_and_acknowledge quorum_rule me from c (next_stamp floor state) (state.sheets c.id) state)
+  propose_and_acknowledge_fit from c floor state sound is_process ours fresh room =
       let t : ℕ = next_stamp floor state in
       let number : IsNumber t = stamp_number floor state room in
       let sheet : Sheet = state.sheets c.id in
       let range : IsCommand c = is_command script accepted in_quorum me here c ours in (
-        proposing_sound script me.partition.0 c.id t (with_proposal t Proposal (kept c sheet)) state sound room (omega arith) (id_ours c ours) fresh
+        proposing_sound script me.partition.0 c.id t (with_proposal t Proposal (with_command c sheet)) state sound room (omega arith) (id_ours c ours) fresh
             (proposal_sound c t Proposal sheet ours number (sound.sheets c.id)) refl,
         (
           record { known = is_process.1; range = (own_site script accepted in_quorum me here, is_process.0, range.0, number); ours = tt },
@@ -268,8 +268,8 @@ module _ (script : Script) (accepted : IsAccepted script) (in_quorum : Command �
       → Goes (on_propose quorum_rule me from c floor state)
   propose_fit from c floor state sound is_process ours =
       cond_both (is_fresh me.partition.0 (state.sheets c.id))
-      (proposed quorum_rule me from c (next_stamp floor state) (state.sheets c.id) state) (state, []) Goes
-      (λ t. proposed_fit from c floor state sound is_process ours (no_proposal c state t))
+      (propose_and_acknowledge quorum_rule me from c (next_stamp floor state) (state.sheets c.id) state) (state, []) Goes
+      (λ t. propose_and_acknowledge_fit from c floor state sound is_process ours (no_proposal c state t))
       (λ f room. (sound, tt))
 
   -- recovery
@@ -303,16 +303,16 @@ module _ (script : Script) (accepted : IsAccepted script) (in_quorum : Command �
         ours = tt;
       }
 
-  proposed_late_fit : (from : ActorName) (c : Command) (b : ℕ) (state : ProcessState) → IsSound state → IsProcessOf script from → IsHere c
+  propose_and_answer_fit : (from : ActorName) (c : Command) (b : ℕ) (state : ProcessState) → IsSound state → IsProcessOf script from → IsHere c
       → IsNumber b → is_untouched (state.sheets c.id) ≡ true
-      → Goes (proposed_late quorum_rule me from c b (next_stamp 0 state) (state.sheets c.id) state)
-  proposed_late_fit from c b state sound is_process ours ballot untouched room =
+      → Goes (propose_and_answer quorum_rule me from c b (next_stamp 0 state) (state.sheets c.id) state)
+  propose_and_answer_fit from c b state sound is_process ours ballot untouched room =
       let t : ℕ = next_stamp 0 state in
       let number : IsNumber t = stamp_number 0 state room in
       let old : Sheet = state.sheets c.id in
       let fresh : is_none old.proposal ≡ true = (and_parts (is_none old.proposal) (old.ballot == 0) untouched).0 in
-      let sheet : Sheet = with_ballot b (with_proposal t Recovery (kept c old)) in
-      let new : IsSheet sheet = with_ballot_sound script me.partition.0 b (with_proposal t Recovery (kept c old)) (λ none. refl)
+      let sheet : Sheet = with_ballot b (with_proposal t Recovery (with_command c old)) in
+      let new : IsSheet sheet = with_ballot_sound script me.partition.0 b (with_proposal t Recovery (with_command c old)) (λ none. refl)
       (proposal_sound c t Recovery old ours number (sound.sheets c.id)) in (
         proposing_sound script me.partition.0 c.id t sheet state sound room (omega arith) (id_ours c ours) fresh new refl,
         (
@@ -322,34 +322,34 @@ module _ (script : Script) (accepted : IsAccepted script) (in_quorum : Command �
         ),
       )
 
-  agreed_fit : (from : ActorName) (c : Command) (b : ℕ) (state : ProcessState) → IsSound state → IsProcessOf script from → IsHere c
-      → IsNumber b → is_untouched (state.sheets c.id) ≡ false → Goes (agreed me from c b (state.sheets c.id) state)
-  agreed_fit from c b state sound is_process ours ballot touched room =
+  answer_with_old_proposal_fit : (from : ActorName) (c : Command) (b : ℕ) (state : ProcessState) → IsSound state → IsProcessOf script from → IsHere c
+      → IsNumber b → is_untouched (state.sheets c.id) ≡ false → Goes (answer_with_old_proposal me from c b (state.sheets c.id) state)
+  answer_with_old_proposal_fit from c b state sound is_process ours ballot touched room =
       let old : Sheet = state.sheets c.id in
       let some : old.accepted_ballot ≡ 0 → is_none old.proposal ≡ false = touched_before script me.partition.0 old (sound.sheets c.id) touched in
-      let sheet : Sheet = with_ballot b (kept c old) in
-      let new : IsSheet sheet = with_ballot_sound script me.partition.0 b (kept c old) some
+      let sheet : Sheet = with_ballot b (with_command c old) in
+      let new : IsSheet sheet = with_ballot_sound script me.partition.0 b (with_command c old) some
       (kept_sound script me.partition.0 c old ours (sound.sheets c.id)) in (
         with_sheet_sound script me.partition.0 c.id sheet state sound new refl,
         (answer_fit from c b sheet is_process ours ballot new some, tt),
       )
 
-  joined_fit : (from : ActorName) (c : Command) (b : ℕ) (state : ProcessState) → IsSound state → IsProcessOf script from → IsHere c
-      → IsNumber b → Goes (joined quorum_rule me from c b (state.sheets c.id) state)
-  joined_fit from c b state sound is_process ours ballot =
+  answer_recovery_fit : (from : ActorName) (c : Command) (b : ℕ) (state : ProcessState) → IsSound state → IsProcessOf script from → IsHere c
+      → IsNumber b → Goes (answer_recovery quorum_rule me from c b (state.sheets c.id) state)
+  answer_recovery_fit from c b state sound is_process ours ballot =
       let sheet : Sheet = state.sheets c.id in
-      cond_both (is_untouched sheet) (proposed_late quorum_rule me from c b (next_stamp 0 state) sheet state) (agreed me from c b sheet state) Goes
-      (proposed_late_fit from c b state sound is_process ours ballot)
-      (agreed_fit from c b state sound is_process ours ballot)
+      cond_both (is_untouched sheet) (propose_and_answer quorum_rule me from c b (next_stamp 0 state) sheet state) (answer_with_old_proposal me from c b sheet state) Goes
+      (propose_and_answer_fit from c b state sound is_process ours ballot)
+      (answer_with_old_proposal_fit from c b state sound is_process ours ballot)
 
   rec_fit_by : (from : ActorName) (c : Command) (b : ℕ) (o : Option ℕ) (state : ProcessState) → IsSound state → IsProcessOf script from → IsHere c
-      → IsNumber b → IfAny IsNumber o → Goes (on_rec_by quorum_rule me from c b o state)
+      → IsNumber b → IfAny IsNumber o → Goes (on_rec_by_stamp quorum_rule me from c b o state)
   rec_fit_by from c b (Some t) state sound is_process ours ballot number room =
-      (sound, told_fit script accepted in_quorum me here from (state.sheets c.id).command t is_process (sound.sheets c.id).command number)
+      (sound, commit_reply_fit script accepted in_quorum me here from (state.sheets c.id).command t is_process (sound.sheets c.id).command number)
   rec_fit_by from c b None state sound is_process ours ballot number room =
       let sheet : Sheet = state.sheets c.id in
-      cond_both (nat_lt sheet.ballot b && nat_lt b LIMIT) (joined quorum_rule me from c b sheet state) (state, []) Goes
-      (λ higher. joined_fit from c b state sound is_process ours ballot)
+      cond_both (nat_lt sheet.ballot b && nat_lt b STAMP_LIMIT) (answer_recovery quorum_rule me from c b sheet state) (state, []) Goes
+      (λ higher. answer_recovery_fit from c b state sound is_process ours ballot)
       (λ lower room. (sound, tt)) room
 
   rec_fit : (from : ActorName) (c : Command) (b : ℕ) (state : ProcessState) → IsSound state → IsProcessOf script from → IsHere c
@@ -398,9 +398,9 @@ module _ (script : Script) (accepted : IsAccepted script) (in_quorum : Command �
       let open_still : Bool = is_some sheet.command && is_none (stamp_of sheet me.partition.0) in
       cond_both (open_still && has_next sheet) (recovering script.topology me id b sheet state) (state, []) IsSettled
       (λ t.
-      let low = and_parts (nat_lt sheet.ballot (LIMIT - 8)) (nat_lt sheet.tried (LIMIT - 8)) (and_parts open_still (has_next sheet) t).1 in
+      let low = and_parts (nat_lt sheet.ballot (STAMP_LIMIT - 8)) (nat_lt sheet.tried (STAMP_LIMIT - 8)) (and_parts open_still (has_next sheet) t).1 in
       let number : IsNumber b = next_ballot_number script.topology me.rank.0 sheet.ballot sheet.tried accepted.shape
-      (ltb-true sheet.ballot (LIMIT - 8) low.0) (ltb-true sheet.tried (LIMIT - 8) low.1) in (
+      (ltb-true sheet.ballot (STAMP_LIMIT - 8) low.0) (ltb-true sheet.tried (STAMP_LIMIT - 8) low.1) in (
         with_sheet_sound script me.partition.0 id (trying script.topology b sheet) state sound
             (trying_sound script me.partition.0 b sheet (sound.sheets id)) refl,
         asked_fit script accepted in_quorum me here b sheet.command (sound.sheets id).command number,
@@ -458,7 +458,7 @@ module _ (script : Script) (accepted : IsAccepted script) (in_quorum : Command �
       let to_me : Bool = same_name m.to (Process me) in
       let named : Bool = is_name_of script.topology m.from in
       let at : Bool = is_body_at script.topology me.partition.0 m.body in
-      let moved : Moved = on_body quorum_rule me m.from m.body state in
+      let moved : Step = on_body quorum_rule me m.from m.body state in
       cond_both (to_me && named && at) (with_room state moved) (state, []) IsSettled
       (λ t.
       let both : ((to_me && named) ≡ true) × (at ≡ true) = and_parts (to_me && named) at t in

@@ -22,7 +22,7 @@ use Rattle.tp_rules.proofs.FitProcesses.{IsProcessSound, ids_of}
 use Rattle.tp_rules.proofs.FitPromises.{untold_attached}
 use Rattle.tp_rules.proofs.Selections.{IfAny, each_filter, each_image, each_spread, each_up_to, filter_shorter}
 use Rattle.tp_rules.specs.Addresses.{accessed, executors_of, is_site_of, message, others_accessed, processes_of, site}
-use Rattle.tp_rules.specs.Process.{ProcessState, announced, asked, bumps, commits, proposals, put_to_vote, told, untold}
+use Rattle.tp_rules.specs.Process.{ProcessState, announced, asked, bumps, commit_messages, proposals, put_to_vote, commit_reply, untold}
 use Rattle.tp_rules.specs.Sheet.{QuorumRule}
 use Rattle.tp_script.specs.Accepted.{IsAccepted}
 use Rattle.tp_script.specs.declared.script.Script.{Script}
@@ -86,11 +86,11 @@ module _ (script : Script) (accepted : IsAccepted script) (in_quorum : Command �
       (λ f. record { known = is_there; range = (own_site, there, range); ours = ours.ours }))
       others (each_filter (IsFrom 1 script.topology.replicas) _ (up_to script.topology.replicas) (each_up_to script.topology.replicas)))
 
-  pub commits_fit : (o : Option Command) (t : ℕ) → IfAny (IsCommandHere script me.partition.0) o → IsNumber t
-      → Each (IsFit script) (commits script.topology me o t)
-  unfolding commits
-  commits_fit None t ours number = tt
-  commits_fit (Some c) t ours number =
+  pub commit_messages_fit : (o : Option Command) (t : ℕ) → IfAny (IsCommandHere script me.partition.0) o → IsNumber t
+      → Each (IsFit script) (commit_messages script.topology me o t)
+  unfolding commit_messages
+  commit_messages_fit None t ours number = tt
+  commit_messages_fit (Some c) t ours number =
       let body : Body = MCommit c me.partition (record { 0 = t }) in
       let range : IsCommand c = is_command c ours in
       let all : List ActorName = flat_map (processes_of script.topology) (accessed script.topology c) in
@@ -132,10 +132,10 @@ module _ (script : Script) (accepted : IsAccepted script) (in_quorum : Command �
       names (each_process script accepted.shape me.partition.0 own_partition))
 
   -- the partition's stamp is told to one
-  pub told_fit : (from : ActorName) (o : Option Command) (t : ℕ) → IsProcessOf script from → IfAny (IsCommandHere script me.partition.0) o → IsNumber t
-      → Each (IsFit script) (told me from o t)
-  told_fit from None t is_process ours number = tt
-  told_fit from (Some c) t is_process ours number = (
+  pub commit_reply_fit : (from : ActorName) (o : Option Command) (t : ℕ) → IsProcessOf script from → IfAny (IsCommandHere script me.partition.0) o → IsNumber t
+      → Each (IsFit script) (commit_reply me from o t)
+  commit_reply_fit from None t is_process ours number = tt
+  commit_reply_fit from (Some c) t is_process ours number = (
     record {
       known = is_process.1;
       range = (

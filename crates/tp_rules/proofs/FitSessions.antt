@@ -16,7 +16,7 @@ use Rattle.tp_rules.proofs.Selections.{IfAny, each_filter, each_get, each_image}
 use Rattle.tp_rules.specs.Acts.{Act, Took, Did, Client}
 use Rattle.tp_rules.specs.Addresses.{accessed, is_between, message, site}
 use Rattle.tp_rules.specs.Journal.{client_of, commands_of, home_of}
-use Rattle.tp_rules.specs.Session.{Moved, SessionState, on_body, on_result, react, submissions}
+use Rattle.tp_rules.specs.Session.{Step, SessionState, on_body, on_result, react, submissions}
 use Rattle.tp_rules.specs.Tables.{nth}
 use Rattle.tp_rules.specs.declared.event.Inner.TheVariants.{Submit, Announce}
 use Rattle.tp_script.specs.Accepted.{IsAccepted}
@@ -85,7 +85,7 @@ module _ (script : Script) (accepted : IsAccepted script) (s : SessionId) (known
   -- what it sends
   pub session_fit : (act : Act) (state : SessionState) → Each (IsFit script) (react script.topology (client_of script s) act state).1
   session_fit (Took m) state = cond_both _ (on_body script.topology (client_of script s) m.body state) (state, [])
-      (λ (moved : Moved). Each (IsFit script) moved.1)
+      (λ (moved : Step). Each (IsFit script) moved.1)
       (λ t. body_fit m.body state)
       (λ f. tt)
   session_fit (Did (Submit n)) state = submission_fit (nth (commands_of script s) n) (of_commands n)

@@ -4,6 +4,7 @@ use Rattle.std.specs.Prelude.{filter, ◌==◌, ◌&&◌, nat_lt, not, is_none, 
 use Rattle.std.specs.List.{flat_map}
 use Rattle.std.proofs.lemmas.Bool.{cond_both}
 use Rattle.std.proofs.lemmas.List.{length-append}
+use Rattle.tp_base.specs.Limits.{STAMP_LIMIT}
 use Rattle.tp_base.specs.Names.{same_name}
 use Rattle.tp_base.specs.declared.names.ActorName.{ActorName}
 use Rattle.tp_base.specs.declared.names.ActorName.TheVariants.{Process, Executor, Session}
@@ -25,7 +26,7 @@ use Rattle.tp_rules.specs.Session as session
 use Rattle.tp_rules.specs.Journal.{identity_in, client_of, act_of, acts}
 use Rattle.tp_rules.specs.Rules.{outputs_of}
 use Rattle.tp_rules.specs.Runs.{outputs_by, outputs_in, FollowsRules}
-use Rattle.tp_rules.specs.Sheet.{Sheet, QuorumRule, ring_rule, stamp_of, is_fresh, command_or, kept, can_acknowledge, acknowledged, is_full, can_accept, can_vote, with_vote, has_consensus, is_untouched, can_answer, with_answer, is_recovered, with_stamp, final_stamp}
+use Rattle.tp_rules.specs.Sheet.{Sheet, QuorumRule, ring_rule, stamp_of, is_fresh, command_or, with_command, can_acknowledge, acknowledged, is_full, can_accept, can_vote, with_vote, has_consensus, is_untouched, can_answer, with_answer, is_recovered, with_stamp, final_stamp}
 use Rattle.tp_rules.specs.Tables.{nth}
 use Rattle.tp_rules.specs.declared.event.Entry.{Entry}
 use Rattle.tp_rules.specs.declared.event.Inner.TheVariants.{Submit, Recover, Announce, Declare, Execute, Crash}
@@ -56,7 +57,7 @@ executors_length : (shape : Shape) (p : ℕ) → length (executors_of shape p) �
 executors_length shape p = map_length (λ rank. Executor (site p rank)) (up_to shape.replicas) ∙ length-up_to shape.replicas
 
 module _ (s : QuorumRule) (good : IsShape s.shape) (me : Site) where
-  abbrev IsShort : process.Moved → Type 0
+  abbrev IsShort : process.Step → Type 0
   IsShort moved = length moved.1 ≤ 63
 
   bumps_short : (c : Command) (t : ℕ) → length (process.bumps s.shape me c t) ≤ 4
@@ -77,10 +78,10 @@ module _ (s : QuorumRule) (good : IsShape s.shape) (me : Site) where
       let all : length (up_to s.shape.replicas) ≡ s.shape.replicas = length-up_to s.shape.replicas in
       omega (arith, map_length (λ rank. message (Process me) (Process (site me.partition.0 rank)) (cond (s.in_quorum c rank) (MPropose c (record { 0 = t })) (MPayload c))) ranks, good.few_replicas)
 
-  commits_short : (o : Option Command) (t : ℕ) → length (process.commits s.shape me o t) ≤ 28
-  unfolding process.commits
-  commits_short None t = omega arith
-  commits_short (Some c) t =
+  commit_messages_short : (o : Option Command) (t : ℕ) → length (process.commit_messages s.shape me o t) ≤ 28
+  unfolding process.commit_messages
+  commit_messages_short None t = omega arith
+  commit_messages_short (Some c) t =
       let all = flat_map (processes_of s.shape) (accessed s.shape c) in
       let names = filter (λ to. not (same_name to (Process me))) all in
       let sends : length (to_each (Process me) names (MCommit c me.partition (record { 0 = t }))) ≡ length names =
@@ -108,18 +109,18 @@ module _ (s : QuorumRule) (good : IsShape s.shape) (me : Site) where
       let known = with_stamp q t sheet in
       let final = final_stamp s.shape known known.command in
       cond_both (is_some (stamp_of sheet q)) (process.with_sheet id sheet state, []) (process.finished me id known known.command final state)
-      (λ (moved : process.Moved). length moved.1 ≤ 1) (λ e. omega arith) (λ e. finished_short id known known.command final state)
+      (λ (moved : process.Step). length moved.1 ≤ 1) (λ e. omega arith) (λ e. finished_short id known known.command final state)
 
   decided_short : (id : CommandId) (t : ℕ) (sheet : Sheet) (state : process.ProcessState) → IsShort (process.decided s.shape me id t sheet state)
   decided_short id t sheet state =
-      let sends = process.commits s.shape me sheet.command t in
+      let sends = process.commit_messages s.shape me sheet.command t in
       let moved = process.learned s.shape me id me.partition.0 t sheet state in
-      omega (arith, length-append sends moved.1, commits_short sheet.command t, learned_short id me.partition.0 t sheet state)
+      omega (arith, length-append sends moved.1, commit_messages_short sheet.command t, learned_short id me.partition.0 t sheet state)
 
-  chosen_short : (id : CommandId) (choice : FastChoice) (sheet : Sheet) (state : process.ProcessState) →
-      IsShort (process.chosen s me id choice sheet state)
-  chosen_short id (Fast t) sheet state = decided_short id t.0 sheet state
-  chosen_short id (Slow t) sheet state = omega (arith, put_short me.rank.0 t.0 sheet.command)
+  follow_choice_short : (id : CommandId) (choice : FastChoice) (sheet : Sheet) (state : process.ProcessState) →
+      IsShort (process.follow_choice s me id choice sheet state)
+  follow_choice_short id (Fast t) sheet state = decided_short id t.0 sheet state
+  follow_choice_short id (Slow t) sheet state = omega (arith, put_short me.rank.0 t.0 sheet.command)
 
   submit_short : (c : Command) (state : process.ProcessState) → IsShort (process.on_submit s me c state)
   submit_short c state =
@@ -133,7 +134,7 @@ module _ (s : QuorumRule) (good : IsShape s.shape) (me : Site) where
   propose_short from c floor state =
       let sheet = state.sheets c.id in
       let t = process.next_stamp floor state in
-      cond_both (is_fresh me.partition.0 sheet) (process.proposed s me from c t sheet state) (state, []) IsShort
+      cond_both (is_fresh me.partition.0 sheet) (process.propose_and_acknowledge s me from c t sheet state) (state, []) IsShort
       (λ e. omega (arith, bumps_short (command_or c sheet) t)) (λ e. omega arith)
 
   ack_short : (from : ActorName) (id : CommandId) (t : ℕ) (state : process.ProcessState) → IsShort (process.on_propose_ack s me from id t state)
@@ -141,15 +142,15 @@ module _ (s : QuorumRule) (good : IsShape s.shape) (me : Site) where
       let rank = rank_of from in
       let sheet = acknowledged rank t (state.sheets id) in
       let choice = fast_choice s.shape (present sheet.acknowledged) in
-      cond_both (can_acknowledge s me.partition.0 me.rank.0 rank (state.sheets id)) (process.gathered s me id sheet state) (state, []) IsShort
-      (λ e. cond_both (is_full s.shape sheet) (process.chosen s me id choice sheet state) (process.with_sheet id sheet state, []) IsShort
-      (λ full. chosen_short id choice sheet state) (λ full. omega arith))
+      cond_both (can_acknowledge s me.partition.0 me.rank.0 rank (state.sheets id)) (process.conclude_fast_path s me id sheet state) (state, []) IsShort
+      (λ e. cond_both (is_full s.shape sheet) (process.follow_choice s me id choice sheet state) (process.with_sheet id sheet state, []) IsShort
+      (λ full. follow_choice_short id choice sheet state) (λ full. omega arith))
       (λ e. omega arith)
 
   consensus_short : (from : ActorName) (c : Command) (t b : ℕ) (state : process.ProcessState) → IsShort (process.on_consensus me from c t b state)
   consensus_short from c t b state =
       let sheet = state.sheets c.id in
-      cond_both (can_accept me.partition.0 b sheet && nat_lt b process.LIMIT) (process.accepted me from c t b sheet state) (state, []) IsShort
+      cond_both (can_accept me.partition.0 b sheet && nat_lt b STAMP_LIMIT) (process.accept_and_vote me from c t b sheet state) (state, []) IsShort
       (λ e. omega arith) (λ e. omega arith)
 
   voted_short : (id : CommandId) (sheet : Sheet) (state : process.ProcessState) → IsShort (process.voted s me id sheet state)
@@ -163,22 +164,22 @@ module _ (s : QuorumRule) (good : IsShape s.shape) (me : Site) where
       cond_both (can_vote me.partition.0 b (state.sheets id)) (process.voted s me id sheet state) (state, []) IsShort
       (λ e. voted_short id sheet state) (λ e. omega arith)
 
-  told_short : (from : ActorName) (o : Option Command) (t : ℕ) → length (process.told me from o t) ≤ 1
-  told_short from None t = omega arith
-  told_short from (Some c) t = omega arith
+  commit_reply_short : (from : ActorName) (o : Option Command) (t : ℕ) → length (process.commit_reply me from o t) ≤ 1
+  commit_reply_short from None t = omega arith
+  commit_reply_short from (Some c) t = omega arith
 
-  joined_short : (from : ActorName) (c : Command) (b : ℕ) (sheet : Sheet) (state : process.ProcessState) → IsShort (process.joined s me from c b sheet state)
-  joined_short from c b sheet state =
+  answer_recovery_short : (from : ActorName) (c : Command) (b : ℕ) (sheet : Sheet) (state : process.ProcessState) → IsShort (process.answer_recovery s me from c b sheet state)
+  answer_recovery_short from c b sheet state =
       let t = process.next_stamp 0 state in
-      cond_both (is_untouched sheet) (process.proposed_late s me from c b t sheet state) (process.agreed me from c b sheet state) IsShort
+      cond_both (is_untouched sheet) (process.propose_and_answer s me from c b t sheet state) (process.answer_with_old_proposal me from c b sheet state) IsShort
       (λ e. omega (arith, bumps_short (command_or c sheet) t)) (λ e. omega arith)
 
-  rec_short : (from : ActorName) (c : Command) (b : ℕ) (o : Option ℕ) (state : process.ProcessState) → IsShort (process.on_rec_by s me from c b o state)
-  rec_short from c b (Some t) state = omega (arith, told_short from (state.sheets c.id).command t)
+  rec_short : (from : ActorName) (c : Command) (b : ℕ) (o : Option ℕ) (state : process.ProcessState) → IsShort (process.on_rec_by_stamp s me from c b o state)
+  rec_short from c b (Some t) state = omega (arith, commit_reply_short from (state.sheets c.id).command t)
   rec_short from c b None state =
       let sheet = state.sheets c.id in
-      cond_both (nat_lt sheet.ballot b && nat_lt b process.LIMIT) (process.joined s me from c b sheet state) (state, []) IsShort
-      (λ e. joined_short from c b sheet state) (λ e. omega arith)
+      cond_both (nat_lt sheet.ballot b && nat_lt b STAMP_LIMIT) (process.answer_recovery s me from c b sheet state) (state, []) IsShort
+      (λ e. answer_recovery_short from c b sheet state) (λ e. omega arith)
 
   put_recovered_short : (id : CommandId) (b : ℕ) (o : Option Command) (sheet : Sheet) (state : process.ProcessState) →
       IsShort (process.put_recovered s me id b o sheet state)
@@ -210,7 +211,7 @@ module _ (s : QuorumRule) (good : IsShape s.shape) (me : Site) where
 
   commit_short : (c : Command) (q t : ℕ) (state : process.ProcessState) → IsShort (process.on_commit s me c q t state)
   commit_short c q t state =
-      let sheet = kept c (state.sheets c.id) in
+      let sheet = with_command c (state.sheets c.id) in
       cond_both (is_accessed s.shape.partitions c q) (process.learned s.shape me c.id q t sheet state) (state, []) IsShort
       (λ e. omega (arith, learned_short c.id q t sheet state)) (λ e. omega arith)
 
@@ -244,7 +245,7 @@ module _ (s : QuorumRule) (good : IsShape s.shape) (me : Site) where
       let moved = process.on_body s me m.from m.body state in
       cond_both (same_name m.to (Process me) && is_name_of s.shape m.from && is_body_at s.shape me.partition.0 m.body)
       (process.with_room state moved) (state, []) IsShort
-      (λ e. cond_both (nat_lt moved.0.clock process.LIMIT) moved (state, []) IsShort (λ room. row_short m.from m.body state) (λ room. omega arith))
+      (λ e. cond_both (nat_lt moved.0.clock STAMP_LIMIT) moved (state, []) IsShort (λ room. row_short m.from m.body state) (λ room. omega arith))
       (λ e. omega arith)
 
   pub process_short : (act : Act) (state : process.ProcessState) → IsShort (process.react s me act state)

@@ -68,11 +68,11 @@ announcement_is_later shape me state = on_announce_sends (IsAfter 11) me shape s
 executor_row_silent : (me : Site) (from : ActorName) (body : Body) (state : executor.ExecutorState) → (executor.on_body me from body state).1 ≡ []
 executor_row_silent me from (MPromises lo hi pairs) state =
     let next : executor.ExecutorState = record state { told = record { rank = rank_of from; lo = lo; hi = hi; attached = pairs } ∷ state.told } in
-    cond_both (partition_of from == me.partition.0) (next, []) (state, []) (λ (moved : executor.Moved). moved.1 ≡ []) (λ e. refl) (λ e. refl)
+    cond_both (partition_of from == me.partition.0) (next, []) (state, []) (λ (moved : executor.Step). moved.1 ≡ []) (λ e. refl) (λ e. refl)
 executor_row_silent me from (MCommitted c t) state =
     let next : executor.ExecutorState =
     record state { committed = record { key = record { stamp = record { 0 = t.0 }; id = c.id }; command = c } ∷ state.committed } in
-    cond_both (has same_id c.id (executor.committed_ids state)) (state, []) (next, []) (λ (moved : executor.Moved). moved.1 ≡ []) (λ e. refl)
+    cond_both (has same_id c.id (executor.committed_ids state)) (state, []) (next, []) (λ (moved : executor.Step). moved.1 ≡ []) (λ e. refl)
     (λ e. refl)
 executor_row_silent me from (MSubmit c) state = refl
 executor_row_silent me from (MPropose c floor) state = refl
@@ -86,17 +86,17 @@ executor_row_silent me from (MRec c b) state = refl
 executor_row_silent me from (MRecAck id t made a b) state = refl
 executor_row_silent me from (MStable id) state =
     let next : executor.ExecutorState = record state { heard = record { id = id; partition = partition_of from } ∷ state.heard } in
-    cond_both (not (partition_of from == me.partition.0)) (next, []) (state, []) (λ (moved : executor.Moved). moved.1 ≡ []) (λ e. refl) (λ e. refl)
+    cond_both (not (partition_of from == me.partition.0)) (next, []) (state, []) (λ (moved : executor.Step). moved.1 ≡ []) (λ e. refl) (λ e. refl)
 executor_row_silent me from (MResult id q answers) state = refl
 
 pub executor_silent : (shape : Shape) (me : Site) (m : Message) (state : executor.ExecutorState) → (executor.react shape me (Took m) state).1 ≡ []
 executor_silent shape me m state =
     cond_both (same_name m.to (Executor me) && is_name_of shape m.from && is_body_at shape me.partition.0 m.body)
-    (executor.on_body me m.from m.body state) (state, []) (λ (moved : executor.Moved). moved.1 ≡ [])
+    (executor.on_body me m.from m.body state) (state, []) (λ (moved : executor.Step). moved.1 ≡ [])
     (λ e. executor_row_silent me m.from m.body state) (λ e. refl)
 
 session_row_silent : (shape : Shape) (client : Client) (body : Body) (state : session.SessionState) → (session.on_body shape client body state).1 ≡ []
-session_row_silent shape client (MResult id q answers) state = cond_both _ _ _ (λ (moved : session.Moved). moved.1 ≡ []) (λ e. refl) (λ e. refl)
+session_row_silent shape client (MResult id q answers) state = cond_both _ _ _ (λ (moved : session.Step). moved.1 ≡ []) (λ e. refl) (λ e. refl)
 session_row_silent shape client (MSubmit c) state = refl
 session_row_silent shape client (MPropose c floor) state = refl
 session_row_silent shape client (MPayload c) state = refl
@@ -115,7 +115,7 @@ pub session_silent : (shape : Shape) (client : Client) (m : Message) (state : se
     (session.react shape client (Took m) state).1 ≡ []
 session_silent shape client m state =
     cond_both (same_name m.to (Session client.session) && is_name_of shape m.from && is_body_at shape 0 m.body)
-    (session.on_body shape client m.body state) (state, []) (λ (moved : session.Moved). moved.1 ≡ [])
+    (session.on_body shape client m.body state) (state, []) (λ (moved : session.Step). moved.1 ≡ [])
     (λ e. session_row_silent shape client m.body state) (λ e. refl)
 
 -- an execution sends results

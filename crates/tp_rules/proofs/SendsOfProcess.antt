@@ -4,6 +4,7 @@ use Rattle.std.proofs.Common.{◌≡◌, ℕ, List, [], Option, Some, None, refl
 use Rattle.std.specs.Prelude.{is_none, is_some, ◌==◌, ◌&&◌, nat_lt}
 use Rattle.std.proofs.lemmas.Bool.{cond_both}
 use Rattle.tp_base.proofs.Each.{each_append, each_map}
+use Rattle.tp_base.specs.Limits.{STAMP_LIMIT}
 use Rattle.tp_base.specs.Lists.{Each}
 use Rattle.tp_base.specs.declared.names.ActorName.{ActorName}
 use Rattle.tp_base.specs.declared.names.ActorName.TheVariants.{Process, Executor}
@@ -21,8 +22,8 @@ use Rattle.tp_quorum.specs.Choice.{present, fast_choice}
 use Rattle.tp_quorum.specs.declared.choice.FastChoice.{FastChoice}
 use Rattle.tp_quorum.specs.declared.choice.FastChoice.TheVariants.{Fast, Slow}
 use Rattle.tp_rules.specs.Addresses.{message, to_each, site, rank_of}
-use Rattle.tp_rules.specs.Process.{ProcessState, Moved, bumps, finished, learned, commits, decided, put_to_vote, proposals, submitted, on_submit, proposed, on_propose, on_payload, chosen, gathered, on_propose_ack, accepted, on_consensus, voted, on_consensus_ack, told, proposed_late, agreed, joined, on_rec_by, on_rec, put_recovered, recovered, on_rec_ack, asked, recovering, has_next, on_recover, on_commit, announced, on_announce, untold, with_room, LIMIT, next_stamp, with_sheet}
-use Rattle.tp_rules.specs.Sheet.{Sheet, QuorumRule, stamp_of, is_fresh, command_or, kept, can_acknowledge, acknowledged, is_full, can_accept, can_vote, with_vote, has_consensus, made_of, stamp_told, is_untouched, with_ballot, with_proposal, can_answer, with_answer, is_recovered, with_stamp, final_stamp}
+use Rattle.tp_rules.specs.Process.{ProcessState, Step, bumps, finished, learned, commit_messages, decided, put_to_vote, proposals, submitted, on_submit, propose_and_acknowledge, on_propose, on_payload, follow_choice, conclude_fast_path, on_propose_ack, accept_and_vote, on_consensus, voted, on_consensus_ack, commit_reply, propose_and_answer, answer_with_old_proposal, answer_recovery, on_rec_by_stamp, on_rec, put_recovered, recovered, on_rec_ack, asked, recovering, has_next, on_recover, on_commit, announced, on_announce, untold, with_room, next_stamp, with_sheet}
+use Rattle.tp_rules.specs.Sheet.{Sheet, QuorumRule, stamp_of, is_fresh, command_or, with_command, can_acknowledge, acknowledged, is_full, can_accept, can_vote, with_vote, has_consensus, made_of, stamp_told, is_untouched, with_ballot, with_proposal, can_answer, with_answer, is_recovered, with_stamp, final_stamp}
 use Rattle.tp_topology.specs.Ballots.{next_ballot}
 use Rattle.tp_topology.specs.Shape.{Shape}
 use Rattle.tp_wire.specs.declared.message.Body.{Body}
@@ -33,7 +34,7 @@ abbrev pub stamp : ℕ → Stamp
 stamp t = record { 0 = t }
 
 -- the outputs of a move
-abbrev pub EachSent : (Message → Type 0) → Moved → Type 0
+abbrev pub EachSent : (Message → Type 0) → Step → Type 0
 EachSent M moved = Each M moved.1
 
 pub each_to : (M : Message → Type 0) (from : ActorName) (names : List ActorName) (body : Body) →
@@ -53,11 +54,11 @@ module _ (M : Message → Type 0) (me : Site) where
   proposals_send s c t h k = each_map M _ _ (λ rank. cond_both (s.in_quorum c rank) (MPropose c (stamp t)) (MPayload c)
       (λ (body : Body). M (message (Process me) (Process (site me.partition.0 rank)) body)) (λ t. h _) (λ f. k _))
 
-  pub commits_send : (shape : Shape) (o : Option Command) (t : ℕ) →
-      ((c : Command) (to : ActorName) → o ≡ Some c → M (message (Process me) to (MCommit c me.partition (stamp t)))) → Each M (commits shape me o t)
-  unfolding commits
-  commits_send shape None t h = tt
-  commits_send shape (Some c) t h = each_to M (Process me) _ (MCommit c me.partition (stamp t)) (λ to. h c to refl)
+  pub commit_messages_send : (shape : Shape) (o : Option Command) (t : ℕ) →
+      ((c : Command) (to : ActorName) → o ≡ Some c → M (message (Process me) to (MCommit c me.partition (stamp t)))) → Each M (commit_messages shape me o t)
+  unfolding commit_messages
+  commit_messages_send shape None t h = tt
+  commit_messages_send shape (Some c) t h = each_to M (Process me) _ (MCommit c me.partition (stamp t)) (λ to. h c to refl)
 
   pub put_to_vote_sends : (shape : Shape) (b t : ℕ) (o : Option Command) →
       ((c : Command) (to : ActorName) → o ≡ Some c → M (message (Process me) to (MConsensus c (stamp t) b))) → Each M (put_to_vote shape me b t o)
@@ -86,8 +87,8 @@ module _ (M : Message → Type 0) (me : Site) where
       ((c : Command) (t : ℕ) → sheet.command ≡ Some c → M (message (Process me) (Executor me) (MCommitted c (stamp t)))) →
       EachSent M (decided shape me id t sheet state)
   decided_sends shape id t sheet state h k =
-      each_append M (commits shape me sheet.command t) (learned shape me id me.partition.0 t sheet state).1
-      (commits_send shape sheet.command t (λ c to e. h c to t e)) (learned_sends shape id me.partition.0 t sheet state k)
+      each_append M (commit_messages shape me sheet.command t) (learned shape me id me.partition.0 t sheet state).1
+      (commit_messages_send shape sheet.command t (λ c to e. h c to t e)) (learned_sends shape id me.partition.0 t sheet state k)
 
   pub on_submit_sends : (s : QuorumRule) (c : Command) (state : ProcessState) →
       ((to : ActorName) (t : ℕ) → M (message (Process me) to (MPropose c (stamp t)))) →
@@ -109,30 +110,30 @@ module _ (M : Message → Type 0) (me : Site) where
   on_propose_sends s from c floor state h k =
       let sheet = state.sheets c.id in
       let t = next_stamp floor state in
-      cond_both (is_fresh me.partition.0 sheet) (proposed s me from c t sheet state) (state, []) (EachSent M)
+      cond_both (is_fresh me.partition.0 sheet) (propose_and_acknowledge s me from c t sheet state) (state, []) (EachSent M)
       (λ e. (h t, bumps_send s.shape (command_or c sheet) t (λ to. k to (command_or c sheet).id t)))
       (λ e. tt)
 
   pub on_payload_sends : (c : Command) (state : ProcessState) → EachSent M (on_payload c state)
   on_payload_sends c state = tt
 
-  pub chosen_sends : (s : QuorumRule) (id : CommandId) (choice : FastChoice) (sheet : Sheet) (state : ProcessState) →
+  pub follow_choice_sends : (s : QuorumRule) (id : CommandId) (choice : FastChoice) (sheet : Sheet) (state : ProcessState) →
       ((c : Command) (to : ActorName) (t : ℕ) → sheet.command ≡ Some c → M (message (Process me) to (MCommit c me.partition (stamp t)))) →
       ((c : Command) (t : ℕ) → sheet.command ≡ Some c → M (message (Process me) (Executor me) (MCommitted c (stamp t)))) →
       ((c : Command) (to : ActorName) (t b : ℕ) → sheet.command ≡ Some c → M (message (Process me) to (MConsensus c (stamp t) b))) →
-      EachSent M (chosen s me id choice sheet state)
-  chosen_sends s id (Fast t) sheet state h k l = decided_sends s.shape id t.0 sheet state h k
-  chosen_sends s id (Slow t) sheet state h k l = put_to_vote_sends s.shape me.rank.0 t.0 sheet.command (λ c to e. l c to t.0 me.rank.0 e)
+      EachSent M (follow_choice s me id choice sheet state)
+  follow_choice_sends s id (Fast t) sheet state h k l = decided_sends s.shape id t.0 sheet state h k
+  follow_choice_sends s id (Slow t) sheet state h k l = put_to_vote_sends s.shape me.rank.0 t.0 sheet.command (λ c to e. l c to t.0 me.rank.0 e)
 
-  pub gathered_sends : (s : QuorumRule) (id : CommandId) (sheet : Sheet) (state : ProcessState) →
+  pub conclude_fast_path_sends : (s : QuorumRule) (id : CommandId) (sheet : Sheet) (state : ProcessState) →
       ((c : Command) (to : ActorName) (t : ℕ) → sheet.command ≡ Some c → M (message (Process me) to (MCommit c me.partition (stamp t)))) →
       ((c : Command) (t : ℕ) → sheet.command ≡ Some c → M (message (Process me) (Executor me) (MCommitted c (stamp t)))) →
       ((c : Command) (to : ActorName) (t b : ℕ) → sheet.command ≡ Some c → M (message (Process me) to (MConsensus c (stamp t) b))) →
-      EachSent M (gathered s me id sheet state)
-  gathered_sends s id sheet state h k l =
+      EachSent M (conclude_fast_path s me id sheet state)
+  conclude_fast_path_sends s id sheet state h k l =
       let choice = fast_choice s.shape (present sheet.acknowledged) in
-      cond_both (is_full s.shape sheet) (chosen s me id choice sheet state) (with_sheet id sheet state, []) (EachSent M)
-      (λ e. chosen_sends s id choice sheet state h k l) (λ e. tt)
+      cond_both (is_full s.shape sheet) (follow_choice s me id choice sheet state) (with_sheet id sheet state, []) (EachSent M)
+      (λ e. follow_choice_sends s id choice sheet state h k l) (λ e. tt)
 
   pub on_propose_ack_sends : (s : QuorumRule) (from : ActorName) (id : CommandId) (t : ℕ) (state : ProcessState) →
       ((c : Command) (to : ActorName) (t : ℕ) → (state.sheets id).command ≡ Some c → M (message (Process me) to (MCommit c me.partition (stamp t)))) →
@@ -141,15 +142,15 @@ module _ (M : Message → Type 0) (me : Site) where
       EachSent M (on_propose_ack s me from id t state)
   on_propose_ack_sends s from id t state h k l =
       let rank = rank_of from in
-      cond_both (can_acknowledge s me.partition.0 me.rank.0 rank (state.sheets id)) (gathered s me id (acknowledged rank t (state.sheets id)) state)
+      cond_both (can_acknowledge s me.partition.0 me.rank.0 rank (state.sheets id)) (conclude_fast_path s me id (acknowledged rank t (state.sheets id)) state)
       (state, []) (EachSent M)
-      (λ e. gathered_sends s id (acknowledged rank t (state.sheets id)) state h k l) (λ e. tt)
+      (λ e. conclude_fast_path_sends s id (acknowledged rank t (state.sheets id)) state h k l) (λ e. tt)
 
   pub on_consensus_sends : (from : ActorName) (c : Command) (t b : ℕ) (state : ProcessState) →
       M (message (Process me) from (MConsensusAck c.id b)) → EachSent M (on_consensus me from c t b state)
   on_consensus_sends from c t b state h =
       let sheet = state.sheets c.id in
-      cond_both (can_accept me.partition.0 b sheet && nat_lt b LIMIT) (accepted me from c t b sheet state) (state, []) (EachSent M)
+      cond_both (can_accept me.partition.0 b sheet && nat_lt b STAMP_LIMIT) (accept_and_vote me from c t b sheet state) (state, []) (EachSent M)
       (λ e. (h, tt)) (λ e. tt)
 
   pub voted_sends : (s : QuorumRule) (id : CommandId) (sheet : Sheet) (state : ProcessState) →
@@ -170,46 +171,46 @@ module _ (M : Message → Type 0) (me : Site) where
       (λ e. voted_sends s id sheet state h k) (λ e. tt)
 
   pub on_commit_sends : (s : QuorumRule) (c : Command) (q t : ℕ) (state : ProcessState) →
-      ((d : Command) (t : ℕ) → (kept c (state.sheets c.id)).command ≡ Some d → M (message (Process me) (Executor me) (MCommitted d (stamp t)))) →
+      ((d : Command) (t : ℕ) → (with_command c (state.sheets c.id)).command ≡ Some d → M (message (Process me) (Executor me) (MCommitted d (stamp t)))) →
       EachSent M (on_commit s me c q t state)
   on_commit_sends s c q t state h =
-      let sheet = kept c (state.sheets c.id) in
+      let sheet = with_command c (state.sheets c.id) in
       cond_both (is_accessed s.shape.partitions c q) (learned s.shape me c.id q t sheet state) (state, []) (EachSent M)
       (λ e. learned_sends s.shape c.id q t sheet state h) (λ e. tt)
 
-  pub joined_sends : (s : QuorumRule) (from : ActorName) (c : Command) (b : ℕ) (sheet : Sheet) (state : ProcessState) →
+  pub answer_recovery_sends : (s : QuorumRule) (from : ActorName) (c : Command) (b : ℕ) (sheet : Sheet) (state : ProcessState) →
       ((x a : ℕ) (made : Made) → M (message (Process me) from (MRecAck c.id (stamp x) made a b))) →
       ((to : ActorName) (id : CommandId) (t : ℕ) → M (message (Process me) to (MBump id (stamp t)))) →
-      EachSent M (joined s me from c b sheet state)
-  joined_sends s from c b sheet state h k =
+      EachSent M (answer_recovery s me from c b sheet state)
+  answer_recovery_sends s from c b sheet state h k =
       let t = next_stamp 0 state in
-      let late = with_ballot b (with_proposal t Recovery (kept c sheet)) in
-      let new = with_ballot b (kept c sheet) in
-      cond_both (is_untouched sheet) (proposed_late s me from c b t sheet state) (agreed me from c b sheet state) (EachSent M)
+      let late = with_ballot b (with_proposal t Recovery (with_command c sheet)) in
+      let new = with_ballot b (with_command c sheet) in
+      cond_both (is_untouched sheet) (propose_and_answer s me from c b t sheet state) (answer_with_old_proposal me from c b sheet state) (EachSent M)
       (λ e. (h (stamp_told late) late.accepted_ballot (made_of late.proposal), bumps_send s.shape (command_or c sheet) t (λ to. k to (command_or c sheet).id t)))
       (λ e. (h (stamp_told new) new.accepted_ballot (made_of new.proposal), tt))
 
-  told_sends : (from : ActorName) (o : Option Command) (t : ℕ) →
-      ((d : Command) → o ≡ Some d → M (message (Process me) from (MCommit d me.partition (stamp t)))) → Each M (told me from o t)
-  told_sends from None t g = tt
-  told_sends from (Some d) t g = (g d refl, tt)
+  commit_reply_sends : (from : ActorName) (o : Option Command) (t : ℕ) →
+      ((d : Command) → o ≡ Some d → M (message (Process me) from (MCommit d me.partition (stamp t)))) → Each M (commit_reply me from o t)
+  commit_reply_sends from None t g = tt
+  commit_reply_sends from (Some d) t g = (g d refl, tt)
 
-  on_rec_by_sends : (s : QuorumRule) (from : ActorName) (c : Command) (b : ℕ) (o : Option ℕ) (state : ProcessState) →
+  on_rec_by_stamp_sends : (s : QuorumRule) (from : ActorName) (c : Command) (b : ℕ) (o : Option ℕ) (state : ProcessState) →
       ((d : Command) (t : ℕ) → (state.sheets c.id).command ≡ Some d → M (message (Process me) from (MCommit d me.partition (stamp t)))) →
       ((x a : ℕ) (made : Made) → M (message (Process me) from (MRecAck c.id (stamp x) made a b))) →
       ((to : ActorName) (id : CommandId) (t : ℕ) → M (message (Process me) to (MBump id (stamp t)))) →
-      EachSent M (on_rec_by s me from c b o state)
-  on_rec_by_sends s from c b (Some t) state g h k = told_sends from (state.sheets c.id).command t (λ d e. g d t e)
-  on_rec_by_sends s from c b None state g h k =
-      cond_both (nat_lt (state.sheets c.id).ballot b && nat_lt b LIMIT) (joined s me from c b (state.sheets c.id) state) (state, []) (EachSent M)
-      (λ e. joined_sends s from c b (state.sheets c.id) state h k) (λ e. tt)
+      EachSent M (on_rec_by_stamp s me from c b o state)
+  on_rec_by_stamp_sends s from c b (Some t) state g h k = commit_reply_sends from (state.sheets c.id).command t (λ d e. g d t e)
+  on_rec_by_stamp_sends s from c b None state g h k =
+      cond_both (nat_lt (state.sheets c.id).ballot b && nat_lt b STAMP_LIMIT) (answer_recovery s me from c b (state.sheets c.id) state) (state, []) (EachSent M)
+      (λ e. answer_recovery_sends s from c b (state.sheets c.id) state h k) (λ e. tt)
 
   pub on_rec_sends : (s : QuorumRule) (from : ActorName) (c : Command) (b : ℕ) (state : ProcessState) →
       ((d : Command) (t : ℕ) → (state.sheets c.id).command ≡ Some d → M (message (Process me) from (MCommit d me.partition (stamp t)))) →
       ((x a : ℕ) (made : Made) → M (message (Process me) from (MRecAck c.id (stamp x) made a b))) →
       ((to : ActorName) (id : CommandId) (t : ℕ) → M (message (Process me) to (MBump id (stamp t)))) →
       EachSent M (on_rec s me from c b state)
-  on_rec_sends s from c b state g h k = on_rec_by_sends s from c b (stamp_of (state.sheets c.id) me.partition.0) state g h k
+  on_rec_sends s from c b state g h k = on_rec_by_stamp_sends s from c b (stamp_of (state.sheets c.id) me.partition.0) state g h k
 
   put_recovered_sends : (s : QuorumRule) (id : CommandId) (b : ℕ) (o : Option Command) (sheet : Sheet) (state : ProcessState) →
       ((c : Command) (to : ActorName) (t : ℕ) → o ≡ Some c → M (message (Process me) to (MConsensus c (stamp t) b))) →
@@ -253,5 +254,5 @@ module _ (M : Message → Type 0) (me : Site) where
       (λ e. each_to M (Process me) _ (MPromises state.told state.clock (untold state)) (λ to. h to state.told state.clock (untold state))) (λ e. tt)
 
   -- a step without room sends nothing
-  pub with_room_sends : (state : ProcessState) (moved : Moved) → EachSent M moved → EachSent M (with_room state moved)
-  with_room_sends state moved h = cond_both (nat_lt moved.0.clock LIMIT) moved (state, []) (EachSent M) (λ e. h) (λ e. tt)
+  pub with_room_sends : (state : ProcessState) (moved : Step) → EachSent M moved → EachSent M (with_room state moved)
+  with_room_sends state moved h = cond_both (nat_lt moved.0.clock STAMP_LIMIT) moved (state, []) (EachSent M) (λ e. h) (λ e. tt)

@@ -3,6 +3,7 @@
 use Rattle.std.proofs.Common.{◌≡◌, ℕ, ◌+◌, ◌<◌, ◌≤◌, Bool, true, false, List, [], ◌∷◌, Some, length, refl, sym, ap, subst, ◌∙◌, arith}
 use Rattle.std.specs.Prelude.{◌&&◌, is_none, is_some, nat_lt, nat_le}
 use Rattle.std.proofs.lemmas.Bool.{cond_both, le-ltb, leb-true, and_parts}
+use Rattle.tp_base.specs.Limits.{STAMP_LIMIT}
 use Rattle.tp_base.specs.Lists.{IsIn}
 use Rattle.tp_base.specs.Names.{same_name}
 use Rattle.tp_base.proofs.Members.{map_in, flat_in}
@@ -89,22 +90,22 @@ act_adds_none : (s : QuorumRule) (me : Site) (act : Act) (state : process.Proces
 act_adds_none s me (Took m) state h e =
     cond_both (same_name m.to (Process me) && is_name_of s.shape m.from && is_body_at s.shape me.partition.0 m.body)
     (process.with_room state (process.on_body s me m.from m.body state)) (state, [])
-    (λ (moved : process.Moved). untold moved.0 ≡ true → untold state ≡ true)
-    (λ t. cond_both (nat_lt (process.on_body s me m.from m.body state).0.clock process.LIMIT) (process.on_body s me m.from m.body state) (state, [])
-    (λ (moved : process.Moved). untold moved.0 ≡ true → untold state ≡ true)
-    (λ room f. subst (λ (moved : process.Moved). untold moved.0 ≡ true) (changes_nothing s me m.from m.body state h) f) (λ room f. f))
+    (λ (moved : process.Step). untold moved.0 ≡ true → untold state ≡ true)
+    (λ t. cond_both (nat_lt (process.on_body s me m.from m.body state).0.clock STAMP_LIMIT) (process.on_body s me m.from m.body state) (state, [])
+    (λ (moved : process.Step). untold moved.0 ≡ true → untold state ≡ true)
+    (λ room f. subst (λ (moved : process.Step). untold moved.0 ≡ true) (changes_nothing s me m.from m.body state h) f) (λ room f. f))
     (λ t f. f) e
 act_adds_none s me (Did Announce) state h e =
     let next : process.ProcessState = record { clock = state.clock; told = state.clock; attached = state.attached; sheets = state.sheets } in
     cond_both (nat_lt state.told state.clock) (next, process.announced s.shape me state) (state, [])
-    (λ (moved : process.Moved). untold moved.0 ≡ true → untold state ≡ true)
+    (λ (moved : process.Step). untold moved.0 ≡ true → untold state ≡ true)
     (λ t f. t) (λ t f. f) e
 act_adds_none s me (Did (Submit n)) state h e = e
 act_adds_none s me (Did (Recover id)) state h e =
     let sheet = state.sheets id in
     let b = next_ballot s.shape me.rank.0 sheet.ballot sheet.tried in
     cond_both (is_some sheet.command && is_none (stamp_of sheet me.partition.0) && process.has_next sheet)
-    (process.recovering s.shape me id b sheet state) (state, []) (λ (moved : process.Moved). untold moved.0 ≡ true → untold state ≡ true)
+    (process.recovering s.shape me id b sheet state) (state, []) (λ (moved : process.Step). untold moved.0 ≡ true → untold state ≡ true)
     (λ t f. f) (λ t f. f) e
 act_adds_none s me (Did (Declare id)) state h e = e
 act_adds_none s me (Did (Execute id)) state h e = e
@@ -128,7 +129,7 @@ unannounced_stays script older e h =
 announced_all : (shape : Shape) (me : Site) (state : process.ProcessState) → untold (process.on_announce shape me state).0 ≡ false
 announced_all shape me state =
     let next : process.ProcessState = record { clock = state.clock; told = state.clock; attached = state.attached; sheets = state.sheets } in
-    cond_both (nat_lt state.told state.clock) (next, process.announced shape me state) (state, []) (λ (moved : process.Moved). untold moved.0 ≡ false)
+    cond_both (nat_lt state.told state.clock) (next, process.announced shape me state) (state, []) (λ (moved : process.Step). untold moved.0 ≡ false)
     (λ t. le-ltb state.clock state.clock (omega arith)) (λ f. f)
 
 some_act : {a b : Act} → Some a ≡ Some b → a ≡ b

@@ -49,12 +49,12 @@ row_remembers : (me : Site) (from : ActorName) (body : Body) (state : executor.E
     Remembers state (executor.on_body me from body state).0
 row_remembers me from (MPromises lo hi pairs) state =
     let next : executor.ExecutorState = record state { told = record { rank = rank_of from; lo = lo; hi = hi; attached = pairs } ∷ state.told } in
-    cond_both (partition_of from == me.partition.0) (next, []) (state, []) (λ (moved : executor.Moved). Remembers state moved.0)
+    cond_both (partition_of from == me.partition.0) (next, []) (state, []) (λ (moved : executor.Step). Remembers state moved.0)
     (λ e. record { declared = λ id h. h; executed = λ id h. h }) (λ e. remembers_itself state)
 row_remembers me from (MCommitted c t) state =
     let next : executor.ExecutorState =
     record state { committed = record { key = record { stamp = record { 0 = t.0 }; id = c.id }; command = c } ∷ state.committed } in
-    cond_both (has same_id c.id (executor.committed_ids state)) (state, []) (next, []) (λ (moved : executor.Moved). Remembers state moved.0)
+    cond_both (has same_id c.id (executor.committed_ids state)) (state, []) (next, []) (λ (moved : executor.Step). Remembers state moved.0)
     (λ e. remembers_itself state) (λ e. record { declared = λ id h. h; executed = λ id h. h })
 row_remembers me from (MSubmit c) state = remembers_itself state
 row_remembers me from (MPropose c floor) state = remembers_itself state
@@ -68,7 +68,7 @@ row_remembers me from (MRec c b) state = remembers_itself state
 row_remembers me from (MRecAck id t made a b) state = remembers_itself state
 row_remembers me from (MStable id) state =
     let next : executor.ExecutorState = record state { heard = record { id = id; partition = partition_of from } ∷ state.heard } in
-    cond_both (not (partition_of from == me.partition.0)) (next, []) (state, []) (λ (moved : executor.Moved). Remembers state moved.0)
+    cond_both (not (partition_of from == me.partition.0)) (next, []) (state, []) (λ (moved : executor.Step). Remembers state moved.0)
     (λ e. record { declared = λ id h. h; executed = λ id h. h }) (λ e. remembers_itself state)
 row_remembers me from (MResult id q answers) state = remembers_itself state
 
@@ -87,7 +87,7 @@ declaration_remembers shape me (Some c) state =
 act_remembers : (shape : Shape) (me : Site) (act : Act) (state : executor.ExecutorState) → Remembers state (executor.react shape me act state).0
 act_remembers shape me (Took m) state =
     cond_both (same_name m.to (Executor me) && is_name_of shape m.from && is_body_at shape me.partition.0 m.body)
-    (executor.on_body me m.from m.body state) (state, []) (λ (moved : executor.Moved). Remembers state moved.0)
+    (executor.on_body me m.from m.body state) (state, []) (λ (moved : executor.Step). Remembers state moved.0)
     (λ e. row_remembers me m.from m.body state) (λ e. remembers_itself state)
 act_remembers shape me (Did (Execute id)) state = execution_remembers shape me (executor.least (executor.waiting state)) state
 act_remembers shape me (Did Announce) state = remembers_itself state

@@ -50,7 +50,7 @@ submitted_by script older s = (session.state_after script.topology (client_of sc
 row_keeps_submitted : (shape : Shape) (client : Client) (body : Body) (state : session.SessionState) →
     (session.on_body shape client body state).0.submitted ≡ state.submitted
 row_keeps_submitted shape client (MResult id q answers) state =
-    cond_both _ _ _ (λ (moved : session.Moved). moved.0.submitted ≡ state.submitted) (λ e. refl) (λ e. refl)
+    cond_both _ _ _ (λ (moved : session.Step). moved.0.submitted ≡ state.submitted) (λ e. refl) (λ e. refl)
 row_keeps_submitted shape client (MSubmit c) state = refl
 row_keeps_submitted shape client (MPropose c floor) state = refl
 row_keeps_submitted shape client (MPayload c) state = refl
@@ -69,7 +69,7 @@ message_keeps_submitted : (shape : Shape) (client : Client) (m : Message) (state
     (session.react shape client (Took m) state).0.submitted ≡ state.submitted
 message_keeps_submitted shape client m state =
     cond_both (same_name m.to (Session client.session) && is_name_of shape m.from && is_body_at shape 0 m.body)
-    (session.on_body shape client m.body state) (state, []) (λ (moved : session.Moved). moved.0.submitted ≡ state.submitted)
+    (session.on_body shape client m.body state) (state, []) (λ (moved : session.Step). moved.0.submitted ≡ state.submitted)
     (λ e. row_keeps_submitted shape client m.body state) (λ e. refl)
 
 -- after one more act of the session

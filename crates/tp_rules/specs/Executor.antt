@@ -45,26 +45,26 @@ abbrev pub start : ExecutorState
 start = record { told = []; committed = []; executed = []; declared = []; heard = []; contents = empty }
 
 -- the new state, and what is sent
-abbrev pub Moved : Type 0
-Moved = ExecutorState × List Message
+abbrev pub Step : Type 0
+Step = ExecutorState × List Message
 
 abbrev pub committed_ids : ExecutorState → List CommandId
 committed_ids state = map (λ c. c.key.id) state.committed
 
 -- MPromises(lo, hi, pairs) from a process of this partition
-abbrev pub on_promises : Site → ActorName → ℕ → ℕ → List Pair → ExecutorState → Moved
+abbrev pub on_promises : Site → ActorName → ℕ → ℕ → List Pair → ExecutorState → Step
 on_promises me from lo hi pairs state = cond (partition_of from == me.partition.0)
     (record state { told = record { rank = rank_of from; lo = lo; hi = hi; attached = pairs } ∷ state.told }, [])
     (state, [])
 
 -- MCommitted(c, t), where c isn't committed
-abbrev pub on_committed : Command → ℕ → ExecutorState → Moved
+abbrev pub on_committed : Command → ℕ → ExecutorState → Step
 on_committed c t state = cond (has same_id c.id (committed_ids state))
     (state, [])
     (record state { committed = record { key = record { stamp = record { 0 = t }; id = c.id }; command = c } ∷ state.committed }, [])
 
 -- MStable(id) from an executor of another partition
-abbrev pub on_stable : Site → ActorName → CommandId → ExecutorState → Moved
+abbrev pub on_stable : Site → ActorName → CommandId → ExecutorState → Step
 on_stable me from id state = cond (not (partition_of from == me.partition.0))
     (record state { heard = record { id = id; partition = partition_of from } ∷ state.heard }, [])
     (state, [])
@@ -122,53 +122,53 @@ unfoldable pub declarations : Shape → Site → Command → List Message
 declarations shape me c =
     to_each (Executor me) (flat_map (executors_of shape) (others_accessed shape c me.partition.0)) (MStable c.id)
 
-abbrev pub declared : Shape → Site → Command → ExecutorState → Moved
+abbrev pub declared : Shape → Site → Command → ExecutorState → Step
 declared shape me c state = (record state { declared = c.id ∷ state.declared }, declarations shape me c)
 
-abbrev pub declare_least : Shape → Site → Option Committed → ExecutorState → Moved
+abbrev pub declare_least : Shape → Site → Option Committed → ExecutorState → Step
 declare_least shape me None state = (state, [])
 declare_least shape me (Some c) state = declared shape me c.command state
 
 -- Declare(id), where it may be entered: id is that of the least waiting command
-abbrev pub on_declare : Shape → Site → ExecutorState → Moved
+abbrev pub on_declare : Shape → Site → ExecutorState → Step
 on_declare shape me state = declare_least shape me (least (waiting state)) state
 
 -- Execute: the partition's operations are applied, and the answers go to the session
-abbrev pub executed : Shape → Site → Command → ExecutorState → Moved
+abbrev pub executed : Shape → Site → Command → ExecutorState → Step
 executed shape me c state =
     let ops = ops_on shape.partitions me.partition.0 c.ops in (
       record state { executed = c.id ∷ state.executed; contents = after_all ops state.contents },
       message (Executor me) (Session c.id.session) (MResult c.id me.partition (answers_of ops state.contents)) ∷ [],
     )
 
-abbrev pub execute_least : Shape → Site → Option Committed → ExecutorState → Moved
+abbrev pub execute_least : Shape → Site → Option Committed → ExecutorState → Step
 execute_least shape me None state = (state, [])
 execute_least shape me (Some c) state = executed shape me c.command state
 
 -- Execute(id), where it may be entered: id is that of the least waiting command
-abbrev pub on_execute : Shape → Site → ExecutorState → Moved
+abbrev pub on_execute : Shape → Site → ExecutorState → Step
 on_execute shape me state = execute_least shape me (least (waiting state)) state
 
 -- the rule of each kind of message
-abbrev pub on_body : Site → ActorName → Body → ExecutorState → Moved
+abbrev pub on_body : Site → ActorName → Body → ExecutorState → Step
 on_body me from (MPromises lo hi pairs) state = on_promises me from lo hi pairs state
 on_body me from (MCommitted c t) state = on_committed c t.0 state
 on_body me from (MStable id) state = on_stable me from id state
 on_body me from _ state = (state, [])
 
 -- a message to another actor, or that names what is outside the shape, changes nothing and sends nothing
-abbrev pub on_message : Shape → Site → Message → ExecutorState → Moved
+abbrev pub on_message : Shape → Site → Message → ExecutorState → Step
 on_message shape me m state =
     cond (same_name m.to (Executor me) && is_name_of shape m.from && is_body_at shape me.partition.0 m.body)
     (on_body me m.from m.body state)
     (state, [])
 
-abbrev pub on_inner : Shape → Site → Inner → ExecutorState → Moved
+abbrev pub on_inner : Shape → Site → Inner → ExecutorState → Step
 on_inner shape me (Declare id) state = on_declare shape me state
 on_inner shape me (Execute id) state = on_execute shape me state
 on_inner shape me _ state = (state, [])
 
-abbrev pub react : Shape → Site → Act → ExecutorState → Moved
+abbrev pub react : Shape → Site → Act → ExecutorState → Step
 react shape me (Took m) state = on_message shape me m state
 react shape me (Did inner) state = on_inner shape me inner state
 

@@ -27,8 +27,8 @@ abbrev pub start : Shape → SessionState
 start shape = record { submitted = 0; kept = λ n. replicate shape.partitions None }
 
 -- the new state, and what is sent
-abbrev pub Moved : Type 0
-Moved = SessionState × List Message
+abbrev pub Step : Type 0
+Step = SessionState × List Message
 
 -- whether the answers of all partitions that a command accesses are kept
 abbrev pub is_whole : Shape → List (Option (List Answer)) → Option Command → Bool
@@ -57,7 +57,7 @@ submissions shape client (Some c) =
     to_each (Session client.session) (map (λ p. Process (site p client.home)) (accessed shape c)) (MSubmit c)
 
 -- Submit(n), where it may be entered
-abbrev pub on_submit : Shape → Client → ℕ → SessionState → Moved
+abbrev pub on_submit : Shape → Client → ℕ → SessionState → Step
 on_submit shape client n state =
     (record { submitted = n; kept = state.kept }, submissions shape client (nth client.commands n))
 
@@ -68,7 +68,7 @@ is_awaited shape q answers parts (Some c) =
     is_accessed shape.partitions c q && is_none (kept_at parts q) && (length answers == length (ops_on shape.partitions q c.ops))
 
 -- MResult(id, q, answers), where id is submitted and its answers are awaited
-abbrev pub on_result : Shape → Client → CommandId → ℕ → List Answer → SessionState → Moved
+abbrev pub on_result : Shape → Client → CommandId → ℕ → List Answer → SessionState → Step
 on_result shape client id q answers state =
     cond ((id.session.0 == client.session.0) && nat_le id.number state.submitted
     && is_awaited shape q answers (state.kept id.number) (nth client.commands id.number))
@@ -76,22 +76,22 @@ on_result shape client id q answers state =
     (state, [])
 
 -- the rule of each kind of message
-abbrev pub on_body : Shape → Client → Body → SessionState → Moved
+abbrev pub on_body : Shape → Client → Body → SessionState → Step
 on_body shape client (MResult id q answers) state = on_result shape client id q.0 answers state
 on_body shape client _ state = (state, [])
 
 -- a message to another actor, or that names what is outside the shape, changes nothing and sends nothing
-abbrev pub on_message : Shape → Client → Message → SessionState → Moved
+abbrev pub on_message : Shape → Client → Message → SessionState → Step
 on_message shape client m state =
     cond (same_name m.to (Session client.session) && is_name_of shape m.from && is_body_at shape 0 m.body)
     (on_body shape client m.body state)
     (state, [])
 
-abbrev pub on_inner : Shape → Client → Inner → SessionState → Moved
+abbrev pub on_inner : Shape → Client → Inner → SessionState → Step
 on_inner shape client (Submit n) state = on_submit shape client n state
 on_inner shape client _ state = (state, [])
 
-abbrev pub react : Shape → Client → Act → SessionState → Moved
+abbrev pub react : Shape → Client → Act → SessionState → Step
 react shape client (Took m) state = on_message shape client m state
 react shape client (Did inner) state = on_inner shape client inner state
 

@@ -70,8 +70,8 @@ abbrev pub command_or : Command → Sheet → Command
 command_or c sheet = unwrap_or sheet.command c
 
 -- with a command kept: the first one stays
-abbrev pub kept : Command → Sheet → Sheet
-kept c sheet = record sheet { command = Some (command_or c sheet) }
+abbrev pub with_command : Command → Sheet → Sheet
+with_command c sheet = record sheet { command = Some (command_or c sheet) }
 
 abbrev pub with_proposal : ℕ → Made → Sheet → Sheet
 with_proposal t made sheet = record sheet { proposal = Some (record { stamp = t; made = made }) }

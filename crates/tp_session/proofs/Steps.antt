@@ -8,7 +8,7 @@ use Rattle.tp_ops.specs.declared.command.Command.{Command}
 use Rattle.tp_ops.specs.declared.operation.Answer.{Answer}
 use Rattle.tp_ops.specs.Parts.{with_part}
 use Rattle.tp_rules.specs.Acts.{Client}
-use Rattle.tp_rules.specs.Session.{Moved, SessionState, is_awaited, is_whole, on_result, on_submit, open_count}
+use Rattle.tp_rules.specs.Session.{Step, SessionState, is_awaited, is_whole, on_result, on_submit, open_count}
 use Rattle.tp_rules.specs.Tables.{nth, with_nth}
 use Rattle.tp_topology.specs.Counting.{count_up_to}
 use Rattle.tp_topology.specs.Shape.{Shape}
@@ -82,7 +82,7 @@ pub refused : (s : Session) (id : CommandId) (q : ℕ) (answers : List Answer) �
     → (state : SessionState) → IsState s state → IsState s (on_result s.topology (client s) id q answers state).0
 refused s id q answers fails state st =
     let out : test_in s id q answers state ≡ false = sym (same_test s id q answers state st) ∙ fails in
-    subst (λ (b : Bool). IsState s (cond {A = Moved} b (record { submitted = state.submitted; kept = λ n. cond (n == id.number) (with_nth (state.kept n) q (Some answers)) (state.kept n) }, []) (state, [])).0) (sym out) st
+    subst (λ (b : Bool). IsState s (cond {A = Step} b (record { submitted = state.submitted; kept = λ n. cond (n == id.number) (with_nth (state.kept n) q (Some answers)) (state.kept n) }, []) (state, [])).0) (sym out) st
 
 -- how many are open, where one that was open may be answered now
 counts : (s : Session) (state : SessionState) (new : ℕ → Table) (n : ℕ) → IsState s state → 1 ≤ n → n ≤ state.submitted
@@ -147,4 +147,4 @@ received s s' id q answers same low high passes kept unanswered state st =
           ∙ counted (is_whole s.topology (new n) (nth s.commands n)) refl
           ∙ sym (open_same s s' (record { submitted = state.submitted; kept = new }) same);
     } in
-    subst (λ (b : Bool). IsState s' (cond {A = Moved} b (record { submitted = state.submitted; kept = new }, []) (state, [])).0) (sym (sym (same_test s id q answers state st) ∙ passes)) after
+    subst (λ (b : Bool). IsState s' (cond {A = Step} b (record { submitted = state.submitted; kept = new }, []) (state, [])).0) (sym (sym (same_test s id q answers state st) ∙ passes)) after

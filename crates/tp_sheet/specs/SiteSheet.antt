@@ -53,8 +53,8 @@ is_gathering rank kept =
     && nat_lt (length (present kept.sheet.acknowledged)) (fast_size kept.shape)
 
 -- the own proposal acknowledged, where it counts
-abbrev pub with_own : ℕ → SiteSheet → SiteSheet
-with_own t kept = with_sheet (acknowledged_own (ring_rule kept.shape) kept.site.partition.0 kept.site.rank.0 t kept.sheet) kept
+abbrev pub with_own_ack : ℕ → SiteSheet → SiteSheet
+with_own_ack t kept = with_sheet (acknowledged_own (ring_rule kept.shape) kept.site.partition.0 kept.site.rank.0 t kept.sheet) kept
 
 -- the choice, where the whole fast quorum has acknowledged
 abbrev pub choice_where_full : Shape → Sheet → Option FastChoice
@@ -67,15 +67,15 @@ put_by shape own (Some (Fast t)) sheet = sheet
 put_by shape own None sheet = sheet
 
 -- the choice that a rank's acknowledgement leads to
-abbrev pub choice_by : ℕ → ℕ → SiteSheet → Option FastChoice
-choice_by rank t kept =
+abbrev pub choice_after_ack : ℕ → ℕ → SiteSheet → Option FastChoice
+choice_after_ack rank t kept =
     cond (takes_acknowledgement rank kept) (choice_where_full kept.shape (acknowledged rank t kept.sheet)) None
 
 -- with a rank's acknowledgement, where it counts
 abbrev pub with_acknowledgement : ℕ → ℕ → SiteSheet → SiteSheet
 with_acknowledgement rank t kept = with_sheet
     (cond (takes_acknowledgement rank kept)
-    (put_by kept.shape kept.site.rank.0 (choice_by rank t kept) (acknowledged rank t kept.sheet))
+    (put_by kept.shape kept.site.rank.0 (choice_after_ack rank t kept) (acknowledged rank t kept.sheet))
     kept.sheet)
     kept
 
@@ -93,8 +93,8 @@ abbrev pub decision_of : Shape → Sheet → Option ℕ
 decision_of shape sheet = cond (has_consensus shape sheet) (Some sheet.putting_stamp) None
 
 -- the decision that a rank's vote leads to
-abbrev pub decision_by : ℕ → ℕ → SiteSheet → Option ℕ
-decision_by rank b kept = cond (takes_vote rank b kept) (decision_of kept.shape (with_vote rank kept.sheet)) None
+abbrev pub decision_after_vote : ℕ → ℕ → SiteSheet → Option ℕ
+decision_after_vote rank b kept = cond (takes_vote rank b kept) (decision_of kept.shape (with_vote rank kept.sheet)) None
 
 -- with a rank's vote, where it counts
 abbrev pub with_vote_of : ℕ → ℕ → SiteSheet → SiteSheet
@@ -154,14 +154,14 @@ putting_at shape b None sheet = sheet
 putting_at shape b (Some t) sheet = putting shape b t sheet
 
 -- the stamp that an answer leads to
-abbrev pub recovery_by : RecoveryAnswer → ℕ → SiteSheet → Option ℕ
-recovery_by a b kept = cond (takes_answer a.rank.0 b kept) (recovery_where_full kept.shape (with_answer a kept.sheet)) None
+abbrev pub choice_after_answer : RecoveryAnswer → ℕ → SiteSheet → Option ℕ
+choice_after_answer a b kept = cond (takes_answer a.rank.0 b kept) (recovery_where_full kept.shape (with_answer a kept.sheet)) None
 
 -- with an answer, where it counts, and what it leads to put to the vote
 abbrev pub with_answer_of : RecoveryAnswer → ℕ → SiteSheet → SiteSheet
 with_answer_of a b kept = with_sheet
     (cond (takes_answer a.rank.0 b kept)
-    (putting_at kept.shape b (recovery_by a b kept) (with_answer a kept.sheet))
+    (putting_at kept.shape b (choice_after_answer a b kept) (with_answer a kept.sheet))
     kept.sheet)
     kept
 
@@ -174,5 +174,5 @@ abbrev pub final_of : SiteSheet → Option ℕ
 final_of kept = final_stamp kept.shape kept.sheet kept.sheet.command
 
 -- the final stamp, where this stamp was not known and all are known with it
-abbrev pub final_by : ℕ → ℕ → SiteSheet → Option ℕ
-final_by q t kept = cond (is_some (stamp_of kept.sheet q)) None (final_of (with_known q t kept))
+abbrev pub final_after_learning : ℕ → ℕ → SiteSheet → Option ℕ
+final_after_learning q t kept = cond (is_some (stamp_of kept.sheet q)) None (final_of (with_known q t kept))

@@ -3,7 +3,7 @@ ghost use Rattle.std.specs.Prelude.{◌≡◌, ◌≤◌, ◌==◌, ◌&&◌, co
 ghost use Rattle.tp_quorum.specs.Choice.{present};
 ghost use Rattle.tp_rules.specs.Sheet.{acknowledged, can_acknowledge, is_made_by_proposal, is_member, ring_rule, stamp_of};
 ghost use Rattle.tp_rules.specs.Tables.{kept_at};
-ghost use Rattle.tp_sheet.specs.SiteSheet.{choice_by, choice_where_full, is_gathering, with_acknowledgement, with_own, with_sheet};
+ghost use Rattle.tp_sheet.specs.SiteSheet.{choice_after_ack, choice_where_full, is_gathering, with_acknowledgement, with_own_ack, with_sheet};
 
 use crate::sheet::Sheet;
 use tp_base::{Made, Rank, Stamp};
@@ -12,7 +12,7 @@ use tp_quorum::FastChoice;
 impl Sheet {
     /// Acknowledges the own proposal where that of another rank would be.
     pub fn acknowledge_own(&mut self, stamp: Stamp)
-        ensures { self.new ≡ with_own stamp.0 self.old }
+        ensures { self.new ≡ with_own_ack stamp.0 self.old }
     {
         self.count_proposal(self.own_rank(), stamp);
     }
@@ -20,7 +20,7 @@ impl Sheet {
     /// Takes a rank's proposal, and gives the choice where the whole fast quorum has acknowledged
     /// with it. What is chosen slowly is put to the vote at the own rank.
     pub fn acknowledge(&mut self, rank: Rank, stamp: Stamp) -> Option<FastChoice>
-        ensures choice { result ≡ choice_by rank.0 stamp.0 self.old }
+        ensures choice { result ≡ choice_after_ack rank.0 stamp.0 self.old }
         ensures taken { self.new ≡ with_acknowledgement rank.0 stamp.0 self.old }
     {
         if !self.has_rank(rank) || !self.count_proposal(rank, stamp) {

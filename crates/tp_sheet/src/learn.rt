@@ -3,7 +3,7 @@ ghost use Rattle.std.specs.Option.{option_map};
 ghost use Rattle.tp_rules.specs.Addresses.{accessed};
 ghost use Rattle.tp_rules.specs.Sheet.{greatest_known as greatest_of_known, stamp_of};
 ghost use Rattle.tp_rules.specs.Tables.{kept_at};
-ghost use Rattle.tp_sheet.specs.SiteSheet.{final_by, final_of, with_known};
+ghost use Rattle.tp_sheet.specs.SiteSheet.{final_after_learning, final_of, with_known};
 
 use crate::sheet::{Sheet, is_partition};
 use tp_base::{PartitionId, Stamp};
@@ -25,7 +25,7 @@ impl Sheet {
     /// Learns the stamp of a partition where it is not known, and gives the final stamp where those
     /// of all the command's partitions are known with it.
     pub fn learn(&mut self, partition: PartitionId, stamp: Stamp) -> Option<Stamp>
-        ensures last { option_map (λ t. t.0) result ≡ final_by partition.0 stamp.0 self.old }
+        ensures last { option_map (λ t. t.0) result ≡ final_after_learning partition.0 stamp.0 self.old }
         ensures known { self.new ≡ with_known partition.0 stamp.0 self.old }
     {
         if !self.add_stamp(partition, stamp) {

@@ -4,18 +4,15 @@ ghost use Rattle.tp_base.specs.Lists.{Each};
 ghost use Rattle.tp_rules.specs.Process.{has_next};
 ghost use Rattle.tp_rules.specs.Sheet.{can_answer, made_of, stamp_of, stamp_told, trying, with_answer};
 ghost use Rattle.tp_rules.specs.Tables.{kept_at};
-ghost use Rattle.tp_sheet.specs.SiteSheet.{answer_of, ballot_by, home_of, promise_by, recovery_by, recovery_where_full, with_answer_of, with_promise, with_sheet, with_try};
+ghost use Rattle.tp_sheet.specs.SiteSheet.{answer_of, ballot_by, home_of, promise_by, choice_after_answer, recovery_where_full, with_answer_of, with_promise, with_sheet, with_try};
 ghost use Rattle.tp_sheet.specs.View.{IsRanked};
 ghost use Rattle.tp_topology.specs.Ballots.{next_ballot as next_ballot_of};
 
 use crate::answers::{NO_ANSWER, gather};
 use crate::sheet::Sheet;
-use tp_base::{Made, Rank, Stamp};
+use tp_base::{Made, Rank, STAMP_LIMIT, Stamp};
 use tp_choice::{RecoveryAnswer, choose};
 use tp_paxos::next_ballot;
-
-/// Ballots below this have a next one.
-const BALLOTS: u64 = (1 << 48) - 8;
 
 impl Sheet {
     /// Agrees to a ballot above the one agreed to before, and gives what is told to its recovery: the
@@ -46,7 +43,7 @@ impl Sheet {
     /// Takes a rank's answer at the ballot that is tried, and gives the choice where just a recovery
     /// quorum has answered with it. The choice is put to the vote at that ballot.
     pub fn answer(&mut self, answer: RecoveryAnswer, ballot: u64) -> Option<Stamp>
-        ensures choice { option_map (λ t. t.0) result ≡ recovery_by answer ballot self.old }
+        ensures choice { option_map (λ t. t.0) result ≡ choice_after_answer answer ballot self.old }
         ensures taken { self.new ≡ with_answer_of answer ballot self.old }
     {
         if !(self.has_rank(answer.rank) && self.can_answer(answer.rank, ballot)) {
@@ -97,8 +94,8 @@ impl Sheet {
     {
         self.command.is_some()
             && !self.knows(self.site.partition)
-            && self.acceptor.ballot < BALLOTS
-            && self.proposer.tried() < BALLOTS
+            && self.acceptor.ballot < STAMP_LIMIT - 8
+            && self.proposer.tried() < STAMP_LIMIT - 8
     }
 
     fn next_ballot(&self) -> u64

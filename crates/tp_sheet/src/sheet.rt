@@ -1,7 +1,7 @@
 ghost use Rattle.std.specs.Prelude.{◌≡◌, ◌≤◌, ◌&&◌, is_some};
 ghost use Rattle.std.specs.Option.{option_copied, option_map};
 ghost use Rattle.tp_rules.specs.Addresses.{is_between};
-ghost use Rattle.tp_rules.specs.Sheet.{is_fresh, kept, putting, stamp_of, with_proposal};
+ghost use Rattle.tp_rules.specs.Sheet.{is_fresh, with_command, putting, stamp_of, with_proposal};
 ghost use Rattle.tp_sheet.specs.SiteSheet.{IsSiteOf, blank_at, proposal_of, with_sheet};
 
 use std::marker::Model;
@@ -100,7 +100,7 @@ impl Sheet {
 
     /// Keeps a command where none is kept.
     pub fn keep(&mut self, command: Command)
-        ensures { self.new ≡ with_sheet (kept command self.old.sheet) self.old }
+        ensures { self.new ≡ with_sheet (with_command command self.old.sheet) self.old }
     {
         if self.command.is_none() {
             self.command = Some(command);

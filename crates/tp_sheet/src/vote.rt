@@ -1,7 +1,7 @@
 ghost use Rattle.std.specs.Prelude.{◌≡◌, ◌≤◌, ◌==◌, ◌&&◌, cond};
 ghost use Rattle.std.specs.Option.{option_map};
 ghost use Rattle.tp_rules.specs.Sheet.{can_accept, has_consensus, with_vote};
-ghost use Rattle.tp_sheet.specs.SiteSheet.{decision_by, with_acceptance, with_sheet, with_vote_of};
+ghost use Rattle.tp_sheet.specs.SiteSheet.{decision_after_vote, with_acceptance, with_sheet, with_vote_of};
 
 use crate::sheet::Sheet;
 use tp_base::{Rank, Stamp};
@@ -19,7 +19,7 @@ impl Sheet {
     /// Takes a rank's vote at a ballot, and gives the stamp that is put there where a consensus
     /// quorum has voted with it.
     pub fn vote(&mut self, rank: Rank, ballot: u64) -> Option<Stamp>
-        ensures decision { option_map (λ t. t.0) result ≡ decision_by rank.0 ballot self.old }
+        ensures decision { option_map (λ t. t.0) result ≡ decision_after_vote rank.0 ballot self.old }
         ensures taken { self.new ≡ with_vote_of rank.0 ballot self.old }
     {
         if ballot == 0 || !self.has_rank(rank) || self.knows(self.site.partition) {

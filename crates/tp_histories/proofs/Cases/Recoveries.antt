@@ -7,7 +7,7 @@ use Rattle.tp_ops.specs.declared.operation.Op.TheVariants.{Put}
 use Rattle.tp_histories.proofs.Words.{process_at, executor_at, session_of, partition, stamp, id, pair, command, the_rules}
 use Rattle.tp_rules.specs.Acts.{Act, Took, Did, Identity, ProcessAt}
 use Rattle.tp_rules.specs.Addresses.{message, site}
-use Rattle.tp_rules.specs.Process.{Moved, react, state_after}
+use Rattle.tp_rules.specs.Process.{Step, react, state_after}
 use Rattle.tp_rules.specs.Rules.{outputs_of}
 use Rattle.tp_rules.specs.Sheet.{ring_rule}
 use Rattle.tp_rules.specs.declared.event.Inner.TheVariants.{Announce, Recover}
@@ -67,10 +67,10 @@ proposal_told : outputs_of (at_rank 2) (asked ∷ []) (recovery 3 2 6)
 unfolding the_rules
 proposal_told = refl
 
-proposed_late : outputs_of (at_rank 3) (told ∷ []) (recovery 2 3 5)
+proposes_and_answers : outputs_of (at_rank 3) (told ∷ []) (recovery 2 3 5)
     ≡ message (process_at 1 3) (process_at 1 2) (MRecAck (id 1 1) (stamp 1) Recovery 0 5) ∷ []
 unfolding the_rules
-proposed_late = refl
+proposes_and_answers = refl
 
 -- the number that a recovery proposed is attached to the command
 late_announced : outputs_of (at_rank 3) (recovery 2 3 5 ∷ told ∷ []) (Did Announce) ≡
@@ -133,7 +133,7 @@ accepted_puts = refl
 
 abbrev IsIgnored : ℕ → List Act → Act → Type 0
 IsIgnored k acts act =
-    ◌≡◌ {A = Moved} (react (ring_rule three) (site 1 k) act (state_after (ring_rule three) (site 1 k) acts))
+    ◌≡◌ {A = Step} (react (ring_rule three) (site 1 k) act (state_after (ring_rule three) (site 1 k) acts))
     (state_after (ring_rule three) (site 1 k) acts, [])
 
 recover_unknown : IsIgnored 2 [] recover

@@ -6,7 +6,7 @@ use Rattle.tp_ops.specs.declared.operation.Op.TheVariants.{Put}
 use Rattle.tp_histories.proofs.Words.{process_at, executor_at, session_of, stamp, id, pair, command, the_rules}
 use Rattle.tp_rules.specs.Acts.{Act, Took, Did, Identity, ExecutorAt}
 use Rattle.tp_rules.specs.Addresses.{message, site}
-use Rattle.tp_rules.specs.Executor.{ExecutorState, Moved, react, state_after}
+use Rattle.tp_rules.specs.Executor.{ExecutorState, Step, react, state_after}
 use Rattle.tp_rules.specs.Rules.{enabled}
 use Rattle.tp_rules.specs.declared.event.Inner.TheVariants.{Declare, Execute}
 use Rattle.tp_topology.specs.Shape.{Shape}
@@ -34,7 +34,7 @@ abbrev me : Identity
 me = ExecutorAt shape (site 1 1)
 
 abbrev IsIgnored : List Act → Message → Type 0
-IsIgnored acts m = ◌≡◌ {A = Moved} (react shape (site 1 1) (Took m) (after acts)) (after acts, [])
+IsIgnored acts m = ◌≡◌ {A = Step} (react shape (site 1 1) (Took m) (after acts)) (after acts, [])
 
 abbrev committed : ℕ → Message
 committed t = message (process_at 1 1) (executor_at 1 1) (MCommitted put_b (stamp t))

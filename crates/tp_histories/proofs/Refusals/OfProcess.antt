@@ -6,7 +6,7 @@ use Rattle.tp_histories.proofs.Words.{process_at, session_of, partition, stamp, 
 use Rattle.tp_histories.proofs.Refusals.SameSheet.{same_sheet}
 use Rattle.tp_rules.specs.Acts.{Act, Took, Did, ProcessAt}
 use Rattle.tp_rules.specs.Addresses.{message, site}
-use Rattle.tp_rules.specs.Process.{ProcessState, Moved, react, state_after}
+use Rattle.tp_rules.specs.Process.{ProcessState, Step, react, state_after}
 use Rattle.tp_rules.specs.Rules.{enabled}
 use Rattle.tp_rules.specs.Sheet.{ring_rule}
 use Rattle.tp_rules.specs.declared.event.Inner.TheVariants.{Announce}
@@ -39,7 +39,7 @@ abbrev after : ℕ → List Act → ProcessState
 after k acts = state_after (ring_rule shape) (site 1 k) acts
 
 abbrev IsIgnored : ℕ → List Act → Message → Type 0
-IsIgnored k acts m = ◌≡◌ {A = Moved} (react (ring_rule shape) (site 1 k) (Took m) (after k acts)) (after k acts, [])
+IsIgnored k acts m = ◌≡◌ {A = Step} (react (ring_rule shape) (site 1 k) (Took m) (after k acts)) (after k acts, [])
 
 abbrev submit : ℕ → Command → Message
 submit k c = message (session_of 1) (process_at 1 k) (MSubmit c)
@@ -102,7 +102,7 @@ propose_without_room = refl
 -- MPayload
 payload_again : IsIgnored 2 (Took (payload 2 put_b) ∷ []) (payload 2 put_b)
 unfolding the_rules
-payload_again = ap (λ (state : ProcessState). let moved : Moved = (state, []) in moved)
+payload_again = ap (λ (state : ProcessState). let moved : Step = (state, []) in moved)
     (same_sheet (id 1 1) (after 2 (Took (payload 2 put_b) ∷ [])))
 
 -- MProposeAck
@@ -188,7 +188,7 @@ commit_of_no_partition = refl
 
 commit_again : IsIgnored 2 (Took (commit 2 put_b 1 1) ∷ []) (commit 2 put_b 1 9)
 unfolding the_rules
-commit_again = ap (λ (state : ProcessState). let moved : Moved = (state, []) in moved)
+commit_again = ap (λ (state : ProcessState). let moved : Step = (state, []) in moved)
     (same_sheet (id 1 1) (after 2 (Took (commit 2 put_b 1 1) ∷ [])))
 
 -- any message

@@ -9,7 +9,7 @@ use Rattle.tp_histories.proofs.Words.{executor_at, session_of, partition, id, co
 use Rattle.tp_rules.specs.Acts.{Act, Took, Did, Client, Identity, SessionOf}
 use Rattle.tp_rules.specs.Addresses.{message}
 use Rattle.tp_rules.specs.Rules.{enabled}
-use Rattle.tp_rules.specs.Session.{SessionState, Moved, react, state_after}
+use Rattle.tp_rules.specs.Session.{SessionState, Step, react, state_after}
 use Rattle.tp_rules.specs.declared.event.Inner.TheVariants.{Submit}
 use Rattle.tp_topology.specs.Shape.{Shape}
 use Rattle.tp_wire.specs.declared.message.Body.TheVariants.{MSubmit, MResult}
@@ -37,7 +37,7 @@ abbrev after : List Act → SessionState
 after acts = state_after shape client acts
 
 abbrev IsIgnored : List Act → Message → Type 0
-IsIgnored acts m = ◌≡◌ {A = Moved} (react shape client (Took m) (after acts)) (after acts, [])
+IsIgnored acts m = ◌≡◌ {A = Step} (react shape client (Took m) (after acts)) (after acts, [])
 
 abbrev result : CommandId → ℕ → List Answer → Message
 result i q answers = message (executor_at q 1) (session_of 1) (MResult i (partition q) answers)

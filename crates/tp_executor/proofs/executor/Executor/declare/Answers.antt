@@ -1,11 +1,11 @@
 use Rattle.std.proofs.Common.{Option, refl, sym, ap, ◌∙◌}
-use Rattle.tp_rules.specs.Executor.{Committed, Moved, declare_least}
+use Rattle.tp_rules.specs.Executor.{Committed, Step, declare_least}
 use Rattle.tp_executor.proofs.Steps.{declares, declares_none, declares_nothing, first_of}
 use Rattle.tp_executor.proofs.executor.Executor.declare.Goals as goal
 
 pub returns-in_default-clause-outputs : goal.returns-in_default-clause-outputs
 returns-in_default-clause-outputs c = λ state st.
-    c.new.ensures ∙ ap (λ (m : Moved). m.1) (sym (declares_none c.args.self.now state c.in_default.ensures st))
+    c.new.ensures ∙ ap (λ (m : Step). m.1) (sym (declares_none c.args.self.now state c.in_default.ensures st))
 
 pub returns-in_default-clause-state : goal.returns-in_default-clause-state
 returns-in_default-clause-state c =

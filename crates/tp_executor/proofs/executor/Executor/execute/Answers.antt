@@ -2,14 +2,14 @@ use Rattle.std.proofs.Common.{ℕ, List, refl, sym, ap, ◌∙◌}
 use Rattle.tp_ops.specs.declared.operation.Op.{Op}
 use Rattle.tp_ops.specs.Parts.{ops_on}
 use Rattle.tp_ops.specs.Store.{after_all, answers_of}
-use Rattle.tp_rules.specs.Executor.{Committed, Moved}
+use Rattle.tp_rules.specs.Executor.{Committed, Step}
 use Rattle.tp_store.specs.Values.{contents_of}
 use Rattle.tp_executor.proofs.Steps.{always, executes, executes_none, executes_sends, if_ok, takes_none}
 use Rattle.tp_executor.proofs.executor.Executor.execute.Goals as goal
 
 pub returns-in_default-clause-outputs : goal.returns-in_default-clause-outputs
 returns-in_default-clause-outputs c = λ state st.
-    c.new.ensures ∙ ap (λ (m : Moved). m.1) (sym (executes_none c.args.self.now state c.in_default.ensures.least st))
+    c.new.ensures ∙ ap (λ (m : Step). m.1) (sym (executes_none c.args.self.now state c.in_default.ensures.least st))
 
 pub returns-in_default-clause-state : goal.returns-in_default-clause-state
 returns-in_default-clause-state c = takes_none c.args.self.now _ c.in_default.ensures.least c.in_default.ensures.taken refl refl refl

@@ -5,7 +5,7 @@ use Rattle.tp_base.specs.declared.names.Stamp.{Stamp}
 use Rattle.tp_process.proofs.Outcomes.{if_ok}
 use Rattle.tp_process.proofs.Voting.{votes_none, votes_some}
 use Rattle.tp_process.specs.State.{IsState}
-use Rattle.tp_rules.specs.Process.{Moved}
+use Rattle.tp_rules.specs.Process.{Step}
 use Rattle.tp_rules.specs.Sheet.{with_vote}
 use Rattle.tp_process.proofs.process.Process.count_vote.Goals as goal
 
@@ -14,7 +14,7 @@ returns-in-Some-clause-outputs c =
     let decision = sym c.vote.ensures.decision ∙ ap (λ (o : Option Stamp). option_map (λ t. t.0) o) c.in-Some.is in
     if_ok c.decide.result _ _ (λ outputs decided s stands within.
     let votes = votes_some _ _ _ _ _ _ _ _ _ c.args.id s c.vote.ensures.changed stands within c.in-Some.stamp.0 decision in
-    decided s (with_vote c.args.rank.0 (s.sheets c.args.id)) votes.1 votes.2 ∙ ap (λ (m : Moved). m.1) (sym votes.0))
+    decided s (with_vote c.args.rank.0 (s.sheets c.args.id)) votes.1 votes.2 ∙ ap (λ (m : Step). m.1) (sym votes.0))
     c.decide.ensures.outputs
 
 pub returns-in-Some-clause-state : goal.returns-in-Some-clause-state
@@ -22,7 +22,7 @@ returns-in-Some-clause-state c =
     let decision = sym c.vote.ensures.decision ∙ ap (λ (o : Option Stamp). option_map (λ t. t.0) o) c.in-Some.is in
     when c.decide.result (λ decided s stands within.
     let votes = votes_some _ _ _ _ _ _ _ _ _ c.args.id s c.vote.ensures.changed stands within c.in-Some.stamp.0 decision in
-    subst (λ (m : Moved). IsState c.decide.new.self m.0) (sym votes.0)
+    subst (λ (m : Step). IsState c.decide.new.self m.0) (sym votes.0)
     (decided s (with_vote c.args.rank.0 (s.sheets c.args.id)) votes.1 votes.2))
     c.decide.ensures.state
 

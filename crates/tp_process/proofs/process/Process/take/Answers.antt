@@ -1,7 +1,7 @@
 use Rattle.std.proofs.Common.{◌≡◌, [], refl, sym, ap, subst, ◌∙◌}
 use Rattle.tp_process.proofs.Unheeded.{unheeded}
 use Rattle.tp_process.specs.State.{IsState}
-use Rattle.tp_rules.specs.Process.{Moved, ProcessState, on_message}
+use Rattle.tp_rules.specs.Process.{Step, ProcessState, on_message}
 use Rattle.tp_rules.specs.Sheet.{ring_rule}
 use Rattle.tp_process.proofs.process.Process.take.Goals as goal
 
@@ -13,6 +13,6 @@ returns-in_default c =
     λ s. unheeded (ring_rule p.place.topology) p.place.site c.args.message.now s others.not-MSubmit others.not-MPropose others.not-MPayload others.not-MProposeAck others.not-MBump others.not-MConsensus others.not-MConsensusAck others.not-MCommit others.not-MRec others.not-MRecAck in
     record {
       identity = refl;
-      outputs = λ s stands range. c.nothing-in_default.ensures ∙ ap (λ (m : Moved). m.1) (sym (idle s));
-      state = λ s stands range. subst (λ (m : Moved). IsState p m.0) (sym (idle s)) stands;
+      outputs = λ s stands range. c.nothing-in_default.ensures ∙ ap (λ (m : Step). m.1) (sym (idle s));
+      state = λ s stands range. subst (λ (m : Step). IsState p m.0) (sym (idle s)) stands;
     }
