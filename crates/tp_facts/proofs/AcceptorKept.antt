@@ -7,6 +7,7 @@ use Rattle.std.specs.Prelude.{unwrap_or}
 use Rattle.tp_base.specs.declared.names.CommandId.{CommandId}
 use Rattle.tp_base.specs.declared.names.Site.{Site}
 use Rattle.tp_ops.specs.declared.command.Command.{Command}
+use Rattle.tp_paxos.specs.Votes.{PutStamp, unvoted, voted_too}
 use Rattle.tp_rules.proofs.CarriedCommands.{Carries}
 use Rattle.tp_rules.proofs.SendsOfProcess.{stamp}
 use Rattle.tp_rules.specs.Acts.{Act, Took}
@@ -19,7 +20,7 @@ use Rattle.tp_wire.specs.declared.message.Message.{Message}
 use Rattle.tp_facts.proofs.Facts.{HasBallot, IsGenuine, KeepsCommand, HasFloor, IsAcceptor, IsSized}
 use Rattle.tp_facts.proofs.Growing.{acceptor_more, floor_more, taken_more}
 use Rattle.tp_facts.proofs.StepCases.{SheetStep, submits, submits_and_acknowledges, proposes, keeps_payload, counts_acknowledgement, decides_fast, puts_slow, accepts, counts_vote, decides_by_votes, knows_already, learns, proposes_and_answers_recovery, answers_recovery, counts_answer, puts_recovered, starts_recovery}
-use Rattle.tp_facts.proofs.Tables.{length_with}
+use Rattle.tp_facts.proofs.Tables.{length_with, length_voted}
 use Rattle.tp_choice.specs.declared.answer.RecoveryAnswer.{RecoveryAnswer}
 
 -- what is asked of a message's body holds of the body that it is
@@ -116,8 +117,8 @@ module _ (s : QuorumRule) (me : Site) (of : CommandId → Command) (acts : List 
   command_kept _ g h = h
 
   acknowledgement_placed : (old : Sheet) (place x : ℕ)
-      → IsSized s.shape old.known old.acknowledged old.answers old.votes
-      → IsSized s.shape old.known (with_nth old.acknowledged place (Some x)) old.answers old.votes
+      → IsSized s.shape old.known old.acknowledged old.answers old.put
+      → IsSized s.shape old.known (with_nth old.acknowledged place (Some x)) old.answers old.put
   acknowledgement_placed old place x h = record {
     stamps = h.stamps;
     acknowledgements = length_with old.acknowledged place (Some x) ∙ h.acknowledgements;
@@ -125,18 +126,19 @@ module _ (s : QuorumRule) (me : Site) (of : CommandId → Command) (acts : List 
     voted = h.voted;
   }
 
-  vote_placed : (old : Sheet) (place : ℕ) → IsSized s.shape old.known old.acknowledged old.answers old.votes
-      → IsSized s.shape old.known old.acknowledged old.answers (with_nth old.votes place true)
-  vote_placed old place h = record {
+  vote_placed : (old : Sheet) (put : PutStamp) (rank : ℕ)
+      → IsSized s.shape old.known old.acknowledged old.answers (Some put)
+      → IsSized s.shape old.known old.acknowledged old.answers (Some (voted_too rank put))
+  vote_placed old put rank h = record {
     stamps = h.stamps;
     acknowledgements = h.acknowledgements;
     answered = h.answered;
-    voted = length_with old.votes place true ∙ h.voted;
+    voted = length_voted put.votes rank ∙ h.voted;
   }
 
   answer_placed : (old : Sheet) (place : ℕ) (a : RecoveryAnswer)
-      → IsSized s.shape old.known old.acknowledged old.answers old.votes
-      → IsSized s.shape old.known old.acknowledged (with_nth old.answers place (Some a)) old.votes
+      → IsSized s.shape old.known old.acknowledged old.answers old.put
+      → IsSized s.shape old.known old.acknowledged (with_nth old.answers place (Some a)) old.put
   answer_placed old place a h = record {
     stamps = h.stamps;
     acknowledgements = h.acknowledgements;
@@ -144,20 +146,20 @@ module _ (s : QuorumRule) (me : Site) (of : CommandId → Command) (acts : List 
     voted = h.voted;
   }
 
-  no_votes : (known acknowledged : List (Option ℕ)) (answers : List (Option RecoveryAnswer)) (votes : List Bool)
-      → IsSized s.shape known acknowledged answers votes
-      → IsSized s.shape known acknowledged answers (replicate s.shape.replicas false)
-  no_votes known acknowledged answers votes h = record {
+  no_votes : (known acknowledged : List (Option ℕ)) (answers : List (Option RecoveryAnswer)) (o : Option PutStamp)
+      (b t : ℕ) → IsSized s.shape known acknowledged answers o
+      → IsSized s.shape known acknowledged answers (Some (unvoted s.shape b t))
+  no_votes known acknowledged answers o b t h = record {
     stamps = h.stamps;
     acknowledgements = h.acknowledgements;
     answered = h.answered;
     voted = length-replicate s.shape.replicas false;
   }
 
-  stamp_placed : (old : Sheet) (place x : ℕ) (table : List (Option ℕ)) (voted : List Bool)
-      → IsSized s.shape old.known table old.answers voted
-      → IsSized s.shape (with_nth old.known place (Some x)) table old.answers voted
-  stamp_placed old place x table voted h = record {
+  stamp_placed : (old : Sheet) (place x : ℕ) (table : List (Option ℕ)) (put : Option PutStamp)
+      → IsSized s.shape old.known table old.answers put
+      → IsSized s.shape (with_nth old.known place (Some x)) table old.answers put
+  stamp_placed old place x table put h = record {
     stamps = length_with old.known place (Some x) ∙ h.stamps;
     acknowledgements = h.acknowledgements;
     answered = h.answered;
@@ -167,22 +169,22 @@ module _ (s : QuorumRule) (me : Site) (of : CommandId → Command) (acts : List 
   -- the tables keep their length
   pub places_kept : {act : Act} {id : CommandId} {old new : Sheet} {out : List Message}
       → SheetStep s me act id old new out
-      → IsSized s.shape old.known old.acknowledged old.answers old.votes
-      → IsSized s.shape new.known new.acknowledged new.answers new.votes
+      → IsSized s.shape old.known old.acknowledged old.answers old.put
+      → IsSized s.shape new.known new.acknowledged new.answers new.put
   places_kept {old = old} (submits_and_acknowledges c t e home fresh can) h = acknowledgement_placed old me.rank.0 t h
   places_kept {old = old} (counts_acknowledgement {m} id t e can few) h =
       acknowledgement_placed old (rank_of m.from) t h
   places_kept {old = old} (decides_fast {m} id t e can full fast last) h =
       stamp_placed old me.partition.0 _ _ _ (acknowledgement_placed old (rank_of m.from) t h)
   places_kept {old = old} (puts_slow {m} id t e can full slow) h =
-      no_votes _ _ _ _ (acknowledgement_placed old (rank_of m.from) t h)
-  places_kept {old = old} (counts_vote {m} id b e none some same) h = vote_placed old (rank_of m.from) h
-  places_kept {old = old} (decides_by_votes {m} id b e none some same enough last) h =
-      stamp_placed old me.partition.0 _ _ _ (vote_placed old (rank_of m.from) h)
+      no_votes _ _ _ _ _ _ (acknowledgement_placed old (rank_of m.from) t h)
+  places_kept {old = old} (counts_vote {m} base id put e none) h = vote_placed old put (rank_of m.from) h
+  places_kept {old = old} (decides_by_votes {m} base id put e none enough last) h =
+      stamp_placed old me.partition.0 _ _ _ (vote_placed old put (rank_of m.from) h)
   places_kept {old = old} (learns c q t e none last) h = stamp_placed old q t _ _ h
   places_kept {old = old} (counts_answer {m} id t made a b e can) h = answer_placed old (rank_of m.from) _ h
   places_kept {old = old} (puts_recovered {m} id t made a b c e can is enough) h =
-      no_votes _ _ _ _ (answer_placed old (rank_of m.from) _ h)
+      no_votes _ _ _ _ _ _ (answer_placed old (rank_of m.from) _ h)
   places_kept (starts_recovery id kept none) h = record {
     stamps = h.stamps;
     acknowledgements = h.acknowledgements;

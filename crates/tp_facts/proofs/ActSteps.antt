@@ -1,6 +1,6 @@
 -- Each act of a process is one of the steps by cases: what `react` does, taken apart test by test.
 -- Used wherever a proof goes by cases over what a process did.
-use Rattle.std.proofs.Common.{◌≡◌, ℕ, Bool, true, List, [], ◌++◌, length, Option, Some, None, refl, ap, arith}
+use Rattle.std.proofs.Common.{◌≡◌, ℕ, Bool, true, List, [], ◌++◌, length, Option, Some, None, refl, sym, ap, ◌∙◌, subst, arith}
 use Rattle.std.proofs.lemmas.Bool.{and_parts, both_ways, cond_both, eqb-true, leb-true, ltb-true}
 use Rattle.std.specs.Prelude.{is_none, is_some, nat_le, nat_lt, ◌==◌, ◌&&◌}
 use Rattle.tp_base.proofs.Options.{none_of}
@@ -13,7 +13,7 @@ use Rattle.tp_base.specs.declared.names.Made.TheVariants.{Proposal, Recovery}
 use Rattle.tp_base.specs.declared.names.Site.{Site}
 use Rattle.tp_ops.specs.Parts.{is_accessed}
 use Rattle.tp_ops.specs.declared.command.Command.{Command}
-use Rattle.tp_paxos.specs.Votes.{count_votes}
+use Rattle.tp_paxos.specs.Votes.{count_votes, PutStamp, decision, is_put_at, voted_by, voted_too}
 use Rattle.tp_quorum.specs.Choice.{present, is_fast, fast_choice}
 use Rattle.tp_quorum.specs.declared.choice.FastChoice.{FastChoice}
 use Rattle.tp_quorum.specs.declared.choice.FastChoice.TheVariants.{Fast, Slow}
@@ -21,7 +21,7 @@ use Rattle.tp_rules.proofs.SendsOfProcess.{stamp}
 use Rattle.tp_rules.specs.Acts.{Act, Took, Did}
 use Rattle.tp_rules.specs.Addresses.{is_body_at, is_name_of, rank_of}
 use Rattle.tp_rules.specs.Process.{Step, ProcessState, accept_and_vote, answer_with_old_proposal, announced, follow_choice, commit_messages, decided, finished, conclude_fast_path, has_next, answer_recovery, learned, next_stamp, on_body, on_commit, on_consensus, on_consensus_ack, on_propose, on_propose_ack, on_rec_ack, on_rec_by_stamp, on_recover, on_submit, propose_and_acknowledge, proposing, propose_and_answer, put_recovered, react, recovered, recovering, submitted, voted, with_room, with_sheet}
-use Rattle.tp_rules.specs.Sheet.{QuorumRule, Sheet, acknowledged, can_accept, can_acknowledge, can_answer, can_vote, final_stamp, has_consensus, is_fresh, is_full, is_recovered, is_untouched, with_command, stamp_of, with_answer, with_proposal, with_stamp, with_vote}
+use Rattle.tp_rules.specs.Sheet.{QuorumRule, Sheet, acknowledged, can_accept, can_acknowledge, can_answer, can_vote, final_stamp, stamp_decided, is_fresh, is_full, is_recovered, is_untouched, with_command, stamp_of, with_answer, with_proposal, with_stamp, with_vote}
 use Rattle.tp_rules.specs.declared.event.Inner.TheVariants.{Announce, Recover}
 use Rattle.tp_topology.specs.Ballots.{next_ballot}
 use Rattle.tp_topology.specs.Shape.{recovery_size, slow_size}
@@ -147,26 +147,47 @@ module _ (s : QuorumRule) (me : Site) (m : Message) (state : ProcessState) where
       (accepts c t b e (none_of (stamp_of old me.partition.0) can.0) (leb-true old.ballot b can.1)) refl)
       (λ n. does_nothing)
 
+  vote_step : (id : CommandId) (b : ℕ) → m.body ≡ MConsensusAck id b → stamp_of (state.sheets id) me.partition.0 ≡ None
+      → (o : Option PutStamp) → (state.sheets id).put ≡ o → is_put_at b o ≡ true
+      → IsTaken (voted s me id (decision s.shape (voted_by (rank_of m.from) o)) (with_vote (rank_of m.from) (state.sheets id)) state)
+  vote_step id b e none None is at = absurd cc
+  vote_step id b e none (Some put) is at =
+      let old : Sheet = state.sheets id in
+      let rank : ℕ = rank_of m.from in
+      let new : Sheet = with_vote rank old in
+      let e_at : m.body ≡ MConsensusAck id put.ballot = e ∙ ap (λ (n : ℕ). MConsensusAck id n) (sym (eqb-true put.ballot b at)) in
+      cond_both (nat_le (slow_size s.shape) (count_votes (voted_too rank put).votes)) (Some put.stamp) None
+      (λ (o : Option ℕ). IsTaken (voted s me id o new state))
+      (λ enough. learned_step s me (Took m) state id me.partition.0 put.stamp new
+      (commit_messages s.shape me old.command put.stamp) refl
+      (λ _ out last. subst
+      (λ (o : Option PutStamp).
+      SheetStep s me (Took m) id (record old { put = o })
+      (with_stamp me.partition.0 put.stamp (with_vote rank (record old { put = o })))
+      (commit_messages s.shape me old.command put.stamp ++ out))
+      (sym is)
+      (decides_by_votes {m = m} old id put e_at none
+      (leb-true (slow_size s.shape) (count_votes (voted_too rank put).votes) enough)
+      (subst
+      (λ (o : Option PutStamp).
+      IsFinal s.shape me (with_stamp me.partition.0 put.stamp (with_vote rank (record old { put = o }))) out)
+      is last)))
+      (λ known. absurd (both_ways _ (ap (λ (o : Option _). is_some o) none) known)))
+      (λ few. changes_sheet state.clock (omega arith)
+      (subst
+      (λ (o : Option PutStamp).
+      SheetStep s me (Took m) id (record old { put = o }) (with_vote rank (record old { put = o })) [])
+      (sym is) (counts_vote {m = m} old id put e_at none)) refl)
+
   consensus_ack_step : (id : CommandId) (b : ℕ) → m.body ≡ MConsensusAck id b
       → IsTaken (on_consensus_ack s me m.from id b state)
   consensus_ack_step id b e =
       let old : Sheet = state.sheets id in
       let new : Sheet = with_vote (rank_of m.from) old in
-      cond_both (can_vote me.partition.0 b old) (voted s me id new state) (state, []) IsTaken
+      cond_both (can_vote me.partition.0 b old) (voted s me id (stamp_decided s.shape new) new state) (state, []) IsTaken
       (λ y.
-      let x = and_parts _ (old.putting_ballot == b) y in
-      let z = and_parts (is_none (stamp_of old me.partition.0)) (nat_lt 0 b) x.0 in
-      let none = none_of (stamp_of old me.partition.0) z.0 in
-      let some = ltb-true 0 b z.1 in
-      let same = eqb-true old.putting_ballot b x.1 in
-      cond_both (has_consensus s.shape new) (decided s.shape me id old.putting_stamp new state)
-      (with_sheet id new state, []) IsTaken
-      (λ enough. learned_step s me (Took m) state id me.partition.0 old.putting_stamp new
-      (commit_messages s.shape me old.command old.putting_stamp) refl
-      (λ _ out last. decides_by_votes id b e none some same
-      (leb-true (slow_size s.shape) (count_votes new.votes) enough) last)
-      (λ known. absurd (both_ways _ (ap (λ (o : Option _). is_some o) none) known)))
-      (λ few. changes_sheet state.clock (omega arith) (counts_vote id b e none some same) refl))
+      let x = and_parts (is_none (stamp_of old me.partition.0)) (is_put_at b old.put) y in
+      vote_step id b e (none_of (stamp_of old me.partition.0) x.0) old.put refl x.1)
       (λ n. does_nothing)
 
   commit_step : (c : Command) (q t : ℕ) → m.body ≡ MCommit c (record { 0 = q }) (stamp t)

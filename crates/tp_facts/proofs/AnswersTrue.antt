@@ -15,6 +15,7 @@ use Rattle.tp_rules.specs.Sheet.{Proposed, QuorumRule, Sheet, made_of, stamp_of,
 use Rattle.tp_wire.specs.declared.message.Body.{Body}
 use Rattle.tp_wire.specs.declared.message.Body.TheVariants.{MConsensus, MConsensusAck}
 use Rattle.tp_wire.specs.declared.message.Message.{Message}
+use Rattle.tp_facts.proofs.RuleTests.{ballot_put}
 use Rattle.tp_facts.proofs.Facts.{SheetFacts, WasTaken, IsFast, VotesOutside, IsAnswer}
 use Rattle.tp_facts.proofs.Growing.{taken_more}
 use Rattle.tp_facts.proofs.Later.{each_body}
@@ -22,7 +23,7 @@ use Rattle.tp_facts.proofs.Later.{each_body}
 -- what was sent before a step is no newer than the sheet
 abbrev pub IsOld : CommandId → Sheet → Body → Type 0
 IsOld id old (MConsensusAck i n) = i ≡ id → n ≤ old.accepted_ballot
-IsOld id old (MConsensus c x n) = c.id ≡ id → n ≤ old.putting_ballot
+IsOld id old (MConsensus c x n) = c.id ≡ id → n ≤ ballot_put old.put
 IsOld id old _ = Unit {0}
 
 -- the stamp of an answer is the accepted one, or the proposed one where none was accepted

@@ -108,7 +108,7 @@ module _ (s : QuorumRule) (me : Site) (of : CommandId → Command) (acts : List 
   fast_kept {old = old} (decides_fast id t e can full is_fast last) here places table h fast =
       let known = kept_here old.known me.partition.0 _ here.partition.0 (omega (arith, here.partition.1, places)) in
       ap (λ (o : Option ℕ). is_some o) known
-  fast_kept {old = old} (decides_by_votes id b e none some same enough last) here places table h fast =
+  fast_kept {old = old} (decides_by_votes base id put e none enough last) here places table h fast =
       some_stays old.known me.partition.0 me.partition.0 _ none (h fast)
   fast_kept {old = old} (learns c q t e none last) here places table h fast =
       some_stays old.known q me.partition.0 t none (h fast)

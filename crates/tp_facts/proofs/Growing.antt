@@ -6,6 +6,8 @@ use Rattle.tp_base.specs.declared.names.CommandId.{CommandId}
 use Rattle.tp_base.specs.declared.names.Site.{Site}
 use Rattle.tp_choice.specs.declared.answer.RecoveryAnswer.{RecoveryAnswer}
 use Rattle.tp_ops.specs.declared.command.Command.{Command}
+use Rattle.tp_paxos.specs.Votes.{PutStamp}
+use Rattle.tp_rules.proofs.Selections.{IfAny}
 use Rattle.tp_rules.specs.Acts.{Act}
 use Rattle.tp_rules.specs.Sheet.{Proposed, QuorumRule}
 use Rattle.tp_wire.specs.declared.message.Body.{Body}
@@ -67,10 +69,10 @@ module _ (s : QuorumRule) (me : Site) (of : CommandId → Command) (acts : List 
     below = h.below;
   }
 
-  pub putter_more : {sent : List Message} {id : CommandId} {b t : ℕ} {votes : List Bool} (act : Act)
-      (out : List Message)
-      → IsPutter of acts sent id b t votes → IsPutter of (act ∷ acts) (out ++ sent) id b t votes
-  putter_more act out h = record {
-    put = λ some. was_sent_more out (h.put some);
-    voters = λ j voted. let old = h.voters j voted in (old.0, taken_from_more act old.1);
+  pub putter_more : (sent : List Message) (id : CommandId) (act : Act) (out : List Message) (o : Option PutStamp)
+      → IfAny (IsPutter of acts sent id) o → IfAny (IsPutter of (act ∷ acts) (out ++ sent) id) o
+  putter_more sent id act out None h = tt
+  putter_more sent id act out (Some put) h = record {
+    was_put = was_sent_more out h.was_put;
+    voters = λ j voted. taken_from_more act (h.voters j voted);
   }

@@ -20,6 +20,7 @@ use Rattle.tp_rules.specs.Sheet.{QuorumRule, Sheet, blank, stamp_of}
 use Rattle.tp_wire.specs.declared.message.Body.{Body}
 use Rattle.tp_wire.specs.declared.message.Body.TheVariants.{MConsensus, MConsensusAck, MPromises}
 use Rattle.tp_wire.specs.declared.message.Message.{Message}
+use Rattle.tp_facts.proofs.RuleTests.{ballot_put}
 use Rattle.tp_facts.proofs.ActSteps.{step_of_act}
 use Rattle.tp_facts.proofs.Announcements.{own_announced, own_attached, own_passed}
 use Rattle.tp_facts.proofs.Facts.{IsHere, SheetFacts, IsGenuine, IsOwn, IsTrue, IsTrueNow, KeepsCommand, ProcessFacts, sent_by}
@@ -59,7 +60,7 @@ module _ (s : QuorumRule) (me : Site) (of : CommandId → Command) (here : IsHer
       go (MConsensusAck j n) i k =
           λ same. subst (λ (x : CommandId). n ≤ (sheets x).accepted_ballot) (sym k.0 ∙ same) k.2
       go (MConsensus c x n) i k =
-          λ same. subst (λ (x : CommandId). n ≤ (sheets x).putting_ballot) (sym k.0 ∙ same) k.1.below
+          λ same. subst (λ (x : CommandId). n ≤ ballot_put (sheets x).put) (sym k.0 ∙ same) k.1.below
       go _ i k = tt
 
   -- what is said of one command says nothing of another

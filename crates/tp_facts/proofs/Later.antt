@@ -20,6 +20,7 @@ use Rattle.tp_topology.specs.Shape.{fast_size}
 use Rattle.tp_wire.specs.declared.message.Body.{Body}
 use Rattle.tp_wire.specs.declared.message.Body.TheVariants.{MPropose, MProposeAck, MConsensus, MConsensusAck, MCommit, MRecAck, MCommitted}
 use Rattle.tp_wire.specs.declared.message.Message.{Message}
+use Rattle.tp_facts.proofs.RuleTests.{ballot_put, stamp_put}
 use Rattle.tp_facts.proofs.AcceptorKept.{carried}
 use Rattle.tp_facts.proofs.Facts.{IsHere, IsGenuine, IsFast, IsFull, IsProposer, VotesOutside, PutsSame, IsAnswer, IsPut, IsLearned, IsTrue}
 use Rattle.tp_facts.proofs.Growing.{answer_more, taken_from_more, taken_more, was_sent_more}
@@ -34,8 +35,8 @@ pub record Later (s : QuorumRule) (old new : Sheet) : Type 0 where
   pub ballot : old.ballot ≤ new.ballot
   pub accepted : old.accepted_ballot ≤ new.accepted_ballot
   -- another stamp is put at a higher ballot only
-  pub putting : ((new.putting_ballot ≡ old.putting_ballot) × (new.putting_stamp ≡ old.putting_stamp))
-      ⊎ (old.putting_ballot < new.putting_ballot)
+  pub putting : ((ballot_put new.put ≡ ballot_put old.put) × (stamp_put new.put ≡ stamp_put old.put))
+      ⊎ (ballot_put old.put < ballot_put new.put)
   -- acknowledgements are counted while no ballot was joined and the fast quorum isn't full
   pub gathered : (new.acknowledged ≡ old.acknowledged)
       ⊎ ((old.ballot ≡ 0) × (length (present old.acknowledged) < fast_size s.shape))
@@ -45,7 +46,7 @@ pub record Later (s : QuorumRule) (old new : Sheet) : Type 0 where
 -- what a step sends of a command is new: a vote at no lower ballot than the one joined, a put above what was put
 abbrev pub IsNew : CommandId → Sheet → Body → Type 0
 IsNew id old (MConsensusAck i n) = i ≡ id → old.ballot ≤ n
-IsNew id old (MConsensus c x n) = c.id ≡ id → old.putting_ballot < n
+IsNew id old (MConsensus c x n) = c.id ≡ id → ballot_put old.put < n
 IsNew id old _ = Unit {0}
 
 module _ (s : QuorumRule) (me : Site) (of : CommandId → Command) (acts : List Act) where
@@ -80,9 +81,9 @@ module _ (s : QuorumRule) (me : Site) (of : CommandId → Command) (acts : List 
 
   putting_later : {act : Act} {id : CommandId} {old new : Sheet} {out : List Message}
       → SheetStep s me act id old new out → IsGenuine of act → IsHere s me
-      → IsProposer s me acts id old.tried old.answers old.putting_ballot
-      → ((new.putting_ballot ≡ old.putting_ballot) × (new.putting_stamp ≡ old.putting_stamp))
-      ⊎ (old.putting_ballot < new.putting_ballot)
+      → IsProposer s me acts id old.tried old.answers (ballot_put old.put)
+      → ((ballot_put new.put ≡ ballot_put old.put) × (stamp_put new.put ≡ stamp_put old.put))
+      ⊎ (ballot_put old.put < ballot_put new.put)
   putting_later (puts_slow id t e can full slow) g here h = inr (omega (arith, can.putting, here.rank.0))
   putting_later (puts_recovered {m} id t made a b c e can is enough) g here h =
       let above = recovers_above h can.tried (carried of m _ e g).1 in
@@ -103,7 +104,7 @@ module _ (s : QuorumRule) (me : Site) (of : CommandId → Command) (acts : List 
       → (q t : ℕ) → kept_at old.known q ≡ Some t → kept_at new.known q ≡ Some t
   known_later {old = old} (decides_fast id t e can full fast last) q x some =
       kept_stays old.known me.partition.0 q _ x can.known some
-  known_later {old = old} (decides_by_votes id b e none pos same enough last) q x some =
+  known_later {old = old} (decides_by_votes base id put e none enough last) q x some =
       kept_stays old.known me.partition.0 q _ x none some
   known_later {old = old} (learns c p t e none last) q x some = kept_stays old.known p q t x none some
   known_later _ q x some = some
@@ -111,7 +112,7 @@ module _ (s : QuorumRule) (me : Site) (of : CommandId → Command) (acts : List 
   -- after a step a sheet is later
   pub later : {act : Act} {id : CommandId} {old new : Sheet} {out : List Message} → SheetStep s me act id old new out
       → IsGenuine of act → IsHere s me
-      → old.accepted_ballot ≤ old.ballot → IsProposer s me acts id old.tried old.answers old.putting_ballot
+      → old.accepted_ballot ≤ old.ballot → IsProposer s me acts id old.tried old.answers (ballot_put old.put)
       → Later s old new
   later step g here low h = record {
     proposal = proposal_later step;
@@ -189,7 +190,7 @@ module _ (s : QuorumRule) (me : Site) (of : CommandId → Command) (acts : List 
   new_outside a b le (MConsensusAck i n) new = λ same. inr (let high = new same in omega arith)
   new_outside a b le _ new = tt
 
-  new_puts_same : (t b : ℕ) → b ≤ old.putting_ballot → (body : Body) → IsNew id old body → PutsSame id t b body
+  new_puts_same : (t b : ℕ) → b ≤ ballot_put old.put → (body : Body) → IsNew id old body → PutsSame id t b body
   new_puts_same t b le (MConsensus c x n) new = λ same at. let high = new same in absurd (omega arith)
   new_puts_same t b le _ new = tt
 

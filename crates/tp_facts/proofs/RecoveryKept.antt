@@ -11,6 +11,8 @@ use Rattle.tp_base.specs.declared.names.Site.{Site}
 use Rattle.tp_choice.specs.declared.answer.RecoveryAnswer.{RecoveryAnswer}
 use Rattle.tp_ops.specs.declared.command.Command.{Command}
 use Rattle.tp_paxos.proofs.Dealing.{first_owner}
+use Rattle.tp_paxos.specs.Votes.{PutStamp, voted_too}
+use Rattle.tp_rules.proofs.Selections.{IfAny}
 use Rattle.tp_rules.proofs.SendsOfProcess.{stamp}
 use Rattle.tp_rules.proofs.UpTo.{in_up_to}
 use Rattle.tp_rules.specs.Acts.{Act, Took}
@@ -22,10 +24,11 @@ use Rattle.tp_topology.specs.Ballots.{next_ballot}
 use Rattle.tp_topology.specs.Counting.{up_to}
 use Rattle.tp_wire.specs.declared.message.Body.TheVariants.{MConsensus, MConsensusAck, MRecAck}
 use Rattle.tp_wire.specs.declared.message.Message.{Message}
+use Rattle.tp_facts.proofs.RuleTests.{ballot_put}
 use Rattle.tp_facts.proofs.Facts.{IsHere, IsAnswerOf, IsProposer, IsPutter, KeepsCommand, WasSent}
 use Rattle.tp_facts.proofs.Growing.{answer_more, proposer_more, putter_more, taken_from_more, was_sent_more}
 use Rattle.tp_facts.proofs.StepCases.{SheetStep, puts_slow, counts_vote, decides_by_votes, counts_answer, puts_recovered, starts_recovery, recovery_answer}
-use Rattle.tp_facts.proofs.Tables.{kept_replicate, kept_with, nth_replicate, nth_with}
+use Rattle.tp_facts.proofs.Tables.{kept_replicate, kept_with, nth_replicate, nth_voted}
 
 module _ (s : QuorumRule) (me : Site) (of : CommandId → Command) (acts : List Act) where
   next_above : (own tried : ℕ) → max s.shape.replicas (max own tried) < next_ballot s.shape me.rank.0 own tried
@@ -57,8 +60,8 @@ module _ (s : QuorumRule) (me : Site) (of : CommandId → Command) (acts : List 
   -- the ballot that is tried is an own one, and the answers that were counted are to it
   pub proposer_kept : {act : Act} {id : CommandId} {old new : Sheet} {out : List Message}
       → SheetStep s me act id old new out → IsHere s me
-      → IsProposer s me acts id old.tried old.answers old.putting_ballot
-      → IsProposer s me (act ∷ acts) id new.tried new.answers new.putting_ballot
+      → IsProposer s me acts id old.tried old.answers (ballot_put old.put)
+      → IsProposer s me (act ∷ acts) id new.tried new.answers (ballot_put new.put)
   proposer_kept (counts_answer {m} id t made a b e can) here h = proposer_with m t made a b e can.tried h
   proposer_kept (puts_recovered {m} id t made a b c e can is enough) here h =
       let more = proposer_with m t made a b e can.tried h in
@@ -99,23 +102,14 @@ module _ (s : QuorumRule) (me : Site) (of : CommandId → Command) (acts : List 
   member_some k j (Some c) e = refl
 
   -- one vote more
-  voter : {sent : List Message} {id : CommandId} {n t : ℕ} {table : List Bool} (m : Message) (b : ℕ)
-      → m.body ≡ MConsensusAck id b → 0 < b → n ≡ b
-      → IsPutter of acts sent id n t table
-      → IsPutter of (Took m ∷ acts) sent id n t (with_nth table (rank_of m.from) true)
-  voter {sent} {id} {n} {t} {table} m b e some same h = record {
-    put = h.put;
-    voters = λ j voted. elim (nth_with table (rank_of m.from) j true true voted) [
-      | inl new ↦ (
-        omega arith,
-        record {
-          message = m;
-          there = inl refl;
-          from = sym new.0;
-          is = e ∙ ap (λ (k : ℕ). MConsensusAck id k) (sym same);
-        },
-      )
-      | inr before ↦ let old = h.voters j before in (old.0, taken_from_more (Took m) old.1)
+  voter : {sent : List Message} {id : CommandId} (put : PutStamp) (m : Message)
+      → m.body ≡ MConsensusAck id put.ballot → IsPutter of acts sent id put
+      → IsPutter of (Took m ∷ acts) sent id (voted_too (rank_of m.from) put)
+  voter put m e h = record {
+    was_put = h.was_put;
+    voters = λ j voted. elim (nth_voted put.votes (rank_of m.from) j voted) [
+      | inl new ↦ record { message = m; there = inl refl; from = sym new; is = e }
+      | inr before ↦ taken_from_more (Took m) (h.voters j before)
     ];
   }
 
@@ -123,21 +117,19 @@ module _ (s : QuorumRule) (me : Site) (of : CommandId → Command) (acts : List 
   pub putter_kept : {act : Act} {id : CommandId} {old new : Sheet} {out : List Message} (sent : List Message)
       → SheetStep s me act id old new out → IsHere s me
       → KeepsCommand of id old.command
-      → IsPutter of acts sent id old.putting_ballot old.putting_stamp old.votes
-      → IsPutter of (act ∷ acts) (out ++ sent) id new.putting_ballot new.putting_stamp new.votes
+      → IfAny (IsPutter of acts sent id) old.put → IfAny (IsPutter of (act ∷ acts) (out ++ sent) id) new.put
   putter_kept {old = old} sent (puts_slow {m} id t e can full slow) here command h =
       let some = member_some me.rank.0 (rank_of m.from) old.command can.member in
       record {
-        put = λ _. put_was_sent id me.rank.0 _ old.command sent here command some;
+        was_put = put_was_sent id me.rank.0 _ old.command sent here command some;
         voters = λ j voted. let no = nth_replicate s.shape.replicas j false true voted in absurd cc;
       }
   putter_kept {old = old} sent (puts_recovered id t made a b c e can is enough) here command h = record {
-    put = λ some. put_was_sent id b _ (Some c) sent here (subst (λ (o : Option _). KeepsCommand of id o) is command)
-        refl;
+    was_put = put_was_sent id b _ (Some c) sent here (subst (λ (o : Option _). KeepsCommand of id o) is command) refl;
     voters = λ j voted. let no = nth_replicate s.shape.replicas j false true voted in absurd cc;
   }
-  putter_kept {old = old} sent (counts_vote {m} id b e none some same) here command h = voter m b e some same h
-  putter_kept {old = old} {out = out} sent (decides_by_votes {m} id b e none some same enough last) here command h =
-      let more = voter m b e some same h in
-      record { put = λ some. was_sent_more out (h.put some); voters = more.voters }
-  putter_kept {act = act} {out = out} sent _ here command h = putter_more s me of acts act out h
+  putter_kept sent (counts_vote {m} base id put e none) here command h = voter put m e h
+  putter_kept {out = out} sent (decides_by_votes {m} base id put e none enough last) here command h =
+      record { was_put = was_sent_more out h.was_put; voters = (voter put m e h).voters }
+  putter_kept {act = act} {id = id} {old = old} {out = out} sent _ here command h =
+      putter_more s me of acts sent id act out old.put h

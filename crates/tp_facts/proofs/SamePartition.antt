@@ -111,7 +111,7 @@ module _ (s : QuorumRule) (me : Site) where
   sheet_step_near (decides_fast id t e can full fast last) h = commit_messages_near _ _ last
   sheet_step_near (puts_slow id t e can full slow) h = put_near _ _ _
   sheet_step_near (accepts {m} c t b e none le) h = (back_near m h e, tt)
-  sheet_step_near (decides_by_votes id b e none some is enough last) h = commit_messages_near _ _ last
+  sheet_step_near (decides_by_votes base id put e none enough last) h = commit_messages_near _ _ last
   sheet_step_near (learns c q t e none last) h = final_near last
   sheet_step_near (proposes_and_answers_recovery {m} c b t e none low nothing zero) h =
       (back_near m h e, bumps_near _ t)

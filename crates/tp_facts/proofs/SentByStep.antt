@@ -10,6 +10,7 @@ use Rattle.tp_base.specs.declared.names.Site.{Site}
 use Rattle.tp_base.specs.declared.names.Made.TheVariants.{Proposal}
 use Rattle.tp_choice.specs.Choosing.{recovery_choice}
 use Rattle.tp_ops.specs.declared.command.Command.{Command}
+use Rattle.tp_paxos.specs.Votes.{voted_too}
 use Rattle.tp_quorum.specs.Choice.{present, greatest}
 use Rattle.tp_rules.proofs.SendsOfProcess.{bumps_send, commit_messages_send, each_to, proposals_send, put_to_vote_sends, stamp}
 use Rattle.tp_rules.specs.Acts.{Act, Took}
@@ -20,6 +21,7 @@ use Rattle.tp_topology.specs.Ballots.{next_ballot}
 use Rattle.tp_wire.specs.declared.message.Body.{Body}
 use Rattle.tp_wire.specs.declared.message.Body.TheVariants.{MSubmit, MConsensus, MConsensusAck, MRec, MPromises}
 use Rattle.tp_wire.specs.declared.message.Message.{Message}
+use Rattle.tp_facts.proofs.RuleTests.{ballot_put}
 use Rattle.tp_facts.proofs.AcceptorKept.{at_home, carried}
 use Rattle.tp_facts.proofs.Facts.{IsHere, SheetFacts, IsCommandOf, KeepsCommand, IsAnswerOf, IsGenuine, PutsSame, IsTrue}
 use Rattle.tp_facts.proofs.FastPathKept.{member_is}
@@ -74,7 +76,7 @@ module _ (s : QuorumRule) (me : Site) (of : CommandId → Command) (acts : List 
       (record { true = ((kept_is of id sheet.command c command some).1, is); from = refl; new_here = tt }, tt)
 
   -- what is put to the vote now is alone at its ballot, which is above what was put
-  puts_alone : (id : CommandId) (old : Sheet) (t b : ℕ) (o : Option Command) → old.putting_ballot < b
+  puts_alone : (id : CommandId) (old : Sheet) (t b : ℕ) (o : Option Command) → ballot_put old.put < b
       → Each (λ m. IsOld id old m.body) sent
       → Each (λ m. PutsSame id t b m.body) (put_to_vote s.shape me b t o ++ sent)
   puts_alone id old t b o above before =
@@ -141,7 +143,7 @@ module _ (s : QuorumRule) (me : Site) (of : CommandId → Command) (acts : List 
       (final_sound act out id old new rest last h.command)
   sent_sound {act = act} {old = old} {new = new} {out = out} (puts_slow {m} id t e can full slow) g h k goes before =
       let top : ℕ = greatest (present new.acknowledged) in
-      let above : old.putting_ballot < me.rank.0 = omega (arith, can.putting, here.rank.0) in
+      let above : ballot_put old.put < me.rank.0 = omega (arith, can.putting, here.rank.0) in
       put_to_vote_sends (Sound act out id old new) me s.shape me.rank.0 top old.command (λ c to some. record {
         true = (
           (kept_is of id old.command c h.command some).1,
@@ -183,18 +185,18 @@ module _ (s : QuorumRule) (me : Site) (of : CommandId → Command) (acts : List 
         tt,
       )
   sent_sound {act = act} {old = old} {new = new} {out = out}
-      (decides_by_votes {m = m} {out = rest} id b e none some same enough last) g h k goes before =
-      each_append (Sound act out id old new) (commit_messages s.shape me old.command old.putting_stamp) rest
-      (commit_messages_send (Sound act out id old new) me s.shape old.command old.putting_stamp (λ c to is. record {
+      (decides_by_votes {m = m} {out = rest} base id put e none enough last) g h k goes before =
+      each_append (Sound act out id old new) (commit_messages s.shape me old.command put.stamp) rest
+      (commit_messages_send (Sound act out id old new) me s.shape old.command put.stamp (λ c to is. record {
         true = (
           (kept_is of id old.command c h.command is).1,
           refl,
           inr (
             refl,
             inr (
-              old.putting_ballot,
-              k.putter.put (omega (arith, same, some)),
-              (new.votes, enough, k.places.voted, λ j voted. (k.putter.voters j voted).1),
+              put.ballot,
+              k.putter.was_put,
+              ((voted_too (rank_of m.from) put).votes, enough, k.places.voted, k.putter.voters),
             ),
           ),
         );
@@ -238,7 +240,7 @@ module _ (s : QuorumRule) (me : Site) (of : CommandId → Command) (acts : List 
       let top : ℕ = recovery_choice (s.in_quorum c) c.home.0 (present new.answers) in
       let command : IsCommandOf of id c = kept_is of id old.command c h.command is in
       let own = recovers_above s me of acts h.proposer can.tried (carried of m _ e g).1 in
-      let above : old.putting_ballot < b =
+      let above : ballot_put old.put < b =
       elim goes.putting [ inl same ↦ absurd (omega (arith, same.0, can.putting)) | inr above ↦ above ] in
       put_to_vote_sends (Sound act out id old new) me s.shape b top (Some c) (λ d to some. record {
         true = (

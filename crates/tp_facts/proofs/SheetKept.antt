@@ -7,6 +7,7 @@ use Rattle.tp_base.specs.declared.names.CommandId.{CommandId}
 use Rattle.tp_base.specs.declared.names.Site.{Site}
 use Rattle.tp_choice.specs.declared.answer.RecoveryAnswer.{RecoveryAnswer}
 use Rattle.tp_ops.specs.declared.command.Command.{Command}
+use Rattle.tp_paxos.specs.Votes.{voted_too}
 use Rattle.tp_quorum.specs.Choice.{present, greatest}
 use Rattle.tp_rules.proofs.SendsOfProcess.{stamp}
 use Rattle.tp_rules.specs.Acts.{Act}
@@ -22,7 +23,7 @@ use Rattle.tp_facts.proofs.Growing.{acceptor_more, floor_more, gathered_more, pr
 use Rattle.tp_facts.proofs.Later.{Later, later_self, learned_more}
 use Rattle.tp_facts.proofs.RecoveryKept.{proposer_kept, putter_kept}
 use Rattle.tp_facts.proofs.StepCases.{SheetStep, decides_fast, decides_by_votes, learns}
-use Rattle.tp_facts.proofs.Tables.{kept_replicate, kept_with, length_with, nth_replicate, present_none}
+use Rattle.tp_facts.proofs.Tables.{kept_replicate, kept_with, length_voted, present_none}
 
 module _ (s : QuorumRule) (me : Site) (of : CommandId → Command) (here : IsHere s me) where
   -- each stamp that is known was decided here, or taken from a commit
@@ -35,23 +36,22 @@ module _ (s : QuorumRule) (me : Site) (of : CommandId → Command) (here : IsHer
         | inl now ↦ inr (now.0, inl ((eqb-true _ _ full, fast), now.1))
         | inr before ↦ learned_more s me of acts sent act out id old new goes q x (h.known q x before)
       ]
-  known_kept {act} {id} {old} {new} {out} acts sent (decides_by_votes {m} i b e none some same enough last) g goes h q x
+  known_kept {act} {id} {old} {new} {out} acts sent (decides_by_votes {m} base i put e none enough last) g goes h q x
       kept =
       let putter =
-      putter_kept s me of acts sent (decides_by_votes {m = m} i b e none some same enough last) here h.command h.putter
+      putter_kept s me of acts sent (decides_by_votes {m = m} base i put e none enough last) here h.command h.putter
       in
-      elim (kept_with old.known me.partition.0 q old.putting_stamp x kept) [
+      elim (kept_with old.known me.partition.0 q put.stamp x kept) [
         | inl now ↦ inr (
           now.0,
           inr (
-            old.putting_ballot,
-            subst (λ (n : ℕ). WasSent (out ++ sent) (MConsensus (of id) (stamp n) old.putting_ballot)) now.1
-                (putter.put (omega (arith, same, some))),
+            put.ballot,
+            subst (λ (n : ℕ). WasSent (out ++ sent) (MConsensus (of id) (stamp n) put.ballot)) now.1 putter.was_put,
             (
-              new.votes,
+              (voted_too (rank_of m.from) put).votes,
               enough,
-              length_with old.votes (rank_of m.from) true ∙ h.places.voted,
-              λ j voted. (putter.voters j voted).1,
+              length_voted put.votes (rank_of m.from) ∙ h.places.voted,
+              putter.voters,
             ),
           ),
         )
@@ -98,7 +98,7 @@ module _ (s : QuorumRule) (me : Site) (of : CommandId → Command) (here : IsHer
     gathered = gathered_more s me of acts act h.gathered;
     fast = h.fast;
     proposer = proposer_more s me of acts act h.proposer;
-    putter = putter_more s me of acts act out h.putter;
+    putter = putter_more s me of acts sent id act out sheet.put h.putter;
     places = h.places;
     known = λ q t kept. learned_more s me of acts sent act out id sheet sheet (later_self sheet) q t (h.known q t kept);
   }
@@ -123,15 +123,12 @@ module _ (s : QuorumRule) (me : Site) (of : CommandId → Command) (here : IsHer
           answers = λ j a kept. absurd (kept_replicate s.shape.replicas j a kept);
           below = omega arith;
         };
-        putter = record {
-          put = λ some. absurd (omega (arith, some));
-          voters = λ j voted. let no = nth_replicate s.shape.replicas j false true voted in absurd cc;
-        };
+        putter = tt;
         places = record {
           stamps = length-replicate {A = Option ℕ} s.shape.partitions None;
           acknowledgements = length-replicate {A = Option ℕ} s.shape.replicas None;
           answered = length-replicate {A = Option RecoveryAnswer} s.shape.replicas None;
-          voted = length-replicate {A = Bool} s.shape.replicas false;
+          voted = tt;
         };
         known = λ q t kept. absurd (kept_replicate s.shape.partitions q t kept);
       }

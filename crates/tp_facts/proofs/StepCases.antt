@@ -11,13 +11,13 @@ use Rattle.tp_base.specs.declared.names.Site.{Site}
 use Rattle.tp_choice.specs.Choosing.{recovery_choice}
 use Rattle.tp_choice.specs.declared.answer.RecoveryAnswer.{RecoveryAnswer}
 use Rattle.tp_ops.specs.declared.command.Command.{Command}
-use Rattle.tp_paxos.specs.Votes.{count_votes}
+use Rattle.tp_paxos.specs.Votes.{PutStamp, count_votes, voted_too}
 use Rattle.tp_quorum.specs.Choice.{present, greatest, is_fast}
 use Rattle.tp_rules.proofs.SendsOfProcess.{stamp}
 use Rattle.tp_rules.specs.Acts.{Act, Took, Did}
 use Rattle.tp_rules.specs.Addresses.{message, rank_of}
 use Rattle.tp_rules.specs.Process.{Step, ProcessState, announced, answer, asked, bumps, commit_messages, proposals, put_to_vote, commit_reply}
-use Rattle.tp_rules.specs.Sheet.{QuorumRule, Sheet, acknowledged, command_or, final_stamp, is_full, with_command, putting, stamp_of, trying, with_accepted, with_answer, with_ballot, with_proposal, with_stamp, with_vote}
+use Rattle.tp_rules.specs.Sheet.{QuorumRule, Sheet, acknowledged, command_or, final_stamp, is_full, with_command, putting, stamp_of, trying, with_accepted, with_answer, with_ballot, with_proposal, with_stamp}
 use Rattle.tp_rules.specs.declared.event.Inner.TheVariants.{Recover}
 use Rattle.tp_topology.specs.Ballots.{next_ballot}
 use Rattle.tp_topology.specs.Shape.{Shape, recovery_size, slow_size}
@@ -54,6 +54,10 @@ with_acknowledgement m t sheet = acknowledged (rank_of m.from) t sheet
 -- the stamp that the fast path decides or puts
 abbrev pub greatest_acknowledged : Sheet → ℕ
 greatest_acknowledged sheet = greatest (present sheet.acknowledged)
+
+-- a sheet that puts a stamp
+abbrev pub having : PutStamp → Sheet → Sheet
+having put sheet = record sheet { put = Some put }
 
 -- what one step does to the sheet of one command, and what it sends
 pub data SheetStep (s : QuorumRule) (me : Site) : Act → CommandId → Sheet → Sheet → List Message → Type 0 where
@@ -108,16 +112,17 @@ pub data SheetStep (s : QuorumRule) (me : Site) : Act → CommandId → Sheet �
       → SheetStep s me (Took m) c.id old (with_accepted b t (with_command c old))
       (message (Process me) m.from (MConsensusAck c.id b) ∷ [])
   -- too few have voted yet
-  counts_vote : {m : Message} {old : Sheet} (id : CommandId) (b : ℕ) → m.body ≡ MConsensusAck id b
-      → stamp_of old me.partition.0 ≡ None → 0 < b → old.putting_ballot ≡ b
-      → SheetStep s me (Took m) id old (with_vote (rank_of m.from) old) []
+  counts_vote : {m : Message} (old : Sheet) (id : CommandId) (put : PutStamp) → m.body ≡ MConsensusAck id put.ballot
+      → stamp_of old me.partition.0 ≡ None
+      → SheetStep s me (Took m) id (having put old) (having (voted_too (rank_of m.from) put) old) []
   -- enough have voted for the stamp that was put
-  decides_by_votes : {m : Message} {old : Sheet} {out : List Message} (id : CommandId) (b : ℕ)
-      → m.body ≡ MConsensusAck id b → stamp_of old me.partition.0 ≡ None → 0 < b → old.putting_ballot ≡ b
-      → slow_size s.shape ≤ count_votes (with_vote (rank_of m.from) old).votes
-      → IsFinal s.shape me (with_stamp me.partition.0 old.putting_stamp (with_vote (rank_of m.from) old)) out
-      → SheetStep s me (Took m) id old (with_stamp me.partition.0 old.putting_stamp (with_vote (rank_of m.from) old))
-      (commit_messages s.shape me old.command old.putting_stamp ++ out)
+  decides_by_votes : {m : Message} {out : List Message} (old : Sheet) (id : CommandId) (put : PutStamp)
+      → m.body ≡ MConsensusAck id put.ballot → stamp_of old me.partition.0 ≡ None
+      → slow_size s.shape ≤ count_votes (voted_too (rank_of m.from) put).votes
+      → IsFinal s.shape me (with_stamp me.partition.0 put.stamp (having (voted_too (rank_of m.from) put) old)) out
+      → SheetStep s me (Took m) id (having put old)
+      (with_stamp me.partition.0 put.stamp (having (voted_too (rank_of m.from) put) old))
+      (commit_messages s.shape me old.command put.stamp ++ out)
   -- a commit of a partition whose stamp is known
   knows_already : {m : Message} {old : Sheet} (c : Command) (q t : ℕ) → m.body ≡ MCommit c (record { 0 = q }) (stamp t)
       → SheetStep s me (Took m) c.id old (with_command c old) []

@@ -1,27 +1,35 @@
-ghost use Rattle.std.specs.Prelude.{◌≡◌, ◌≤◌, length};
-ghost use Rattle.tp_paxos.specs.Votes.{count_votes, is_decided, nothing, putting, trying, voted};
+ghost use Rattle.std.specs.Option.{option_map};
+ghost use Rattle.std.specs.Prelude.{◌≡◌, ◌≤◌, is_none, length};
+ghost use Rattle.tp_paxos.specs.Votes.{count_votes, decision, decision_with, is_put_at, nothing, putting, trying, voted};
 
 use std::marker::Model;
 use tp_base::{Rank, Stamp};
 use tp_topology::Topology;
 
-/// What a process has tried and put to the vote, and the ranks that voted for it.
+/// What a process has tried and put to the vote.
 #[derive(Debug, Drop)]
 pub struct Proposer {
     topology: Topology,
     tried: u64,
-    putting_ballot: u64,
-    putting_stamp: Stamp,
+    put: Option<PutStamp>,
+}
+
+/// A stamp that is put to the vote at a ballot, and the ranks that voted for it.
+#[derive(Clone, Copy, Debug)]
+struct PutStamp {
+    ballot: u64,
+    stamp: Stamp,
     votes: [bool; 7],
 }
 
 impl Model for Proposer {
-    ghost use Rattle.std.specs.Prelude.{◌≤◌, take};
+    ghost use Rattle.std.specs.Prelude.{◌≤◌};
+    ghost use Rattle.tp_paxos.specs.View.{view_of};
     ghost use Rattle.tp_paxos.specs.Votes.{Proposal};
 
     ghost Value = { Proposal };
 
-    ghost view = { λ p. record { shape = p.topology; tried = p.tried; putting_ballot = p.putting_ballot; putting_stamp = p.putting_stamp; votes = take p.topology.replicas p.votes } };
+    ghost view = { view_of };
 
     ghost invariant = { λ p. p.topology.replicas ≤ 7 };
 }
@@ -36,9 +44,7 @@ impl Proposer {
         Proposer {
             topology: *topology,
             tried: 0,
-            putting_ballot: 0,
-            putting_stamp: Stamp(0),
-            votes: [false; 7],
+            put: None,
         }
     }
 
@@ -49,18 +55,21 @@ impl Proposer {
         self.tried
     }
 
-    /// The ballot at which a stamp is put, 0 where none is.
-    pub fn putting_ballot(&self) -> u64
-        ensures { result ≡ self.now.putting_ballot }
+    /// Whether nothing is put.
+    pub fn is_idle(&self) -> bool
+        ensures { result ≡ is_none self.now.put }
     {
-        self.putting_ballot
+        self.put.is_none()
     }
 
-    /// The stamp that is put.
-    pub fn putting_stamp(&self) -> Stamp
-        ensures { result ≡ self.now.putting_stamp }
+    /// Whether a stamp is put at a ballot.
+    pub fn is_put_at(&self, ballot: u64) -> bool
+        ensures { result ≡ is_put_at ballot self.now.put }
     {
-        self.putting_stamp
+        match self.put {
+            None => false,
+            Some(put) => put.ballot == ballot,
+        }
     }
 
     /// Tries a ballot.
@@ -72,35 +81,47 @@ impl Proposer {
 
     /// Puts a stamp to the vote at a ballot, without votes.
     pub fn put(&mut self, ballot: u64, stamp: Stamp)
-        ensures { self.new ≡ putting ballot stamp self.old }
+        ensures { self.new ≡ putting ballot stamp.0 self.old }
     {
-        self.putting_ballot = ballot;
-        self.putting_stamp = stamp;
-        self.votes = [false; 7];
+        self.put = Some(PutStamp {
+            ballot,
+            stamp,
+            votes: [false; 7],
+        });
     }
 
-    /// Takes the vote of a rank, where it is at the ballot that is put, and tells whether a
-    /// consensus quorum has voted with it.
-    pub fn vote(&mut self, rank: Rank, ballot: u64) -> bool
+    /// Takes the vote of a rank, where it is at the ballot that is put, and gives the stamp where a
+    /// consensus quorum has voted for it.
+    pub fn vote(&mut self, rank: Rank, ballot: u64) -> Option<Stamp>
         requires from { 1 ≤ rank.0 }
         requires to { rank.0 ≤ self.old.shape.replicas }
-        requires ballot { 1 ≤ ballot }
         ensures voted { self.new ≡ voted rank.0 ballot self.old }
-        ensures shape { self.new.shape ≡ self.old.shape }
-        ensures decided { result ≡ is_decided ballot self.new }
+        ensures decided { option_map (λ t. t.0) result ≡ decision_with rank.0 ballot self.old }
     {
-        if ballot != self.putting_ballot {
-            return false;
+        let Some(mut put) = self.put else {
+            return None;
+        };
+        if put.ballot != ballot {
+            return None;
         }
-        self.votes[usize::from(rank.0) - 1] = true;
-        self.topology.slow_size() <= count_votes(self.votes())
+        put.votes[usize::from(rank.0) - 1] = true;
+        self.put = Some(put);
+        self.decision()
     }
 
-    fn votes(&self) -> &[bool]
-        ensures table { result.now ≡ self.now.votes }
-        ensures few { length result.now ≤ 7 }
+    /// The stamp that is put, where a consensus quorum has voted for it.
+    fn decision(&self) -> Option<Stamp>
+        ensures { option_map (λ t. t.0) result ≡ decision self.now.shape self.now.put }
     {
-        &self.votes[..usize::from(self.topology.replicas())]
+        let Some(put) = self.put else {
+            return None;
+        };
+        let votes = &put.votes[..usize::from(self.topology.replicas())];
+        if self.topology.slow_size() <= count_votes(votes) {
+            Some(put.stamp)
+        } else {
+            None
+        }
     }
 }
 

@@ -1,7 +1,7 @@
 -- What the blank sheet says.
 use Rattle.std.proofs.Common.{◌≡◌, ℕ, zero, suc, Bool, true, false, Option, None, replicate, refl, ap, ◌∙◌, arith}
 use Rattle.std.proofs.lemmas.Bool.{and_parts, eqb-true, ltb-true}
-use Rattle.std.specs.Prelude.{slice_get, ◌&&◌, ◌==◌, nat_lt, not}
+use Rattle.std.specs.Prelude.{is_none, slice_get, ◌&&◌, ◌==◌, nat_lt}
 use Rattle.tp_base.specs.declared.names.Site.{Site}
 use Rattle.tp_choice.specs.declared.answer.RecoveryAnswer.{RecoveryAnswer}
 use Rattle.tp_rules.specs.Addresses.{is_between}
@@ -45,19 +45,11 @@ blank-choice shape site rank t = rw (blank-takes shape site rank) refl
 pub blank-acknowledges : (shape : Shape) (site : Site) (rank t : ℕ) → with_acknowledgement rank t (blank_at shape site) ≡ blank_at shape site
 blank-acknowledges shape site rank t = rw (blank-takes shape site rank) refl
 
--- nothing is put, so no ballot is one of what is put
-no_ballot : (unknown : Bool) (b : ℕ) (counts : Bool) → (unknown && nat_lt 0 b && (0 == b)) ≡ counts → counts ≡ false
-no_ballot unknown b false e = refl
-no_ballot unknown b true e =
-    let both = and_parts (unknown && nat_lt 0 b) (0 == b) e in
-    let some = ltb-true 0 b (and_parts unknown (nat_lt 0 b) both.0).1 in
-    let none = eqb-true 0 b both.1 in
-    absurd (omega (arith, some, none))
-
 blank-takes_vote : (shape : Shape) (site : Site) (rank b : ℕ) → takes_vote rank b (blank_at shape site) ≡ false
 unfolding blank
 blank-takes_vote shape site rank b =
-    ap (λ (counts : Bool). is_between rank shape.replicas && counts) (no_ballot _ b _ refl) ∙ never (is_between rank shape.replicas)
+    ap (λ (counts : Bool). is_between rank shape.replicas && counts) (never (is_none (stamp_of (blank shape) site.partition.0)))
+    ∙ never (is_between rank shape.replicas)
 
 pub blank-decision : (shape : Shape) (site : Site) (rank b : ℕ) → decision_after_vote rank b (blank_at shape site) ≡ None
 blank-decision shape site rank b = rw (blank-takes_vote shape site rank b) refl
@@ -77,18 +69,14 @@ pub blank-tries : (shape : Shape) (site : Site) → with_try (blank_at shape sit
 unfolding blank
 blank-tries shape site = refl
 
--- nothing is tried, and nothing is put, so no ballot is tried and not put
-no_try : (unknown : Bool) (b : ℕ) (unanswered counts : Bool) → (unknown && (0 == b) && not (0 == b) && unanswered) ≡ counts → counts ≡ false
+-- nothing is tried, so no ballot above 0 is
+no_try : (unknown : Bool) (b : ℕ) (unanswered counts : Bool) → (unknown && nat_lt 0 b && (0 == b) && true && unanswered) ≡ counts → counts ≡ false
 no_try unknown b unanswered false e = refl
 no_try unknown b unanswered true e =
-    let first = and_parts (unknown && (0 == b) && not (0 == b)) unanswered e in
-    let both = and_parts (unknown && (0 == b)) (not (0 == b)) first.0 in
-    let tried = (and_parts unknown (0 == b) both.0).1 in
-    absurd (both_ways (0 == b) tried both.1)
-  where
-    both_ways : (x : Bool) → x ≡ true → not x ≡ true → ⊥
-    both_ways true h k = cc
-    both_ways false h k = cc
+    let first = and_parts (unknown && nat_lt 0 b && (0 == b) && true) unanswered e in
+    let tried = and_parts (unknown && nat_lt 0 b) (0 == b) (and_parts (unknown && nat_lt 0 b && (0 == b)) true first.0).0 in
+    let some = ltb-true 0 b (and_parts unknown (nat_lt 0 b) tried.0).1 in
+    absurd (omega (arith, some, eqb-true 0 b tried.1))
 
 blank-takes_answer : (shape : Shape) (site : Site) (rank b : ℕ) → takes_answer rank b (blank_at shape site) ≡ false
 unfolding blank

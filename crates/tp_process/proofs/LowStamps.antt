@@ -1,6 +1,6 @@
 -- Stamps below the limit, in the tables of a sheet.
 use Rattle.std.proofs.Common.{◌≡◌, ℕ, zero, suc, ◌-◌, ◌<◌, ◌≤◌, ◌⊎◌, inl, inr, Bool, true, List, [], ◌∷◌, map, max, replicate, set, Option, Some, None, is_some, refl, sym, subst, arith}
-use Rattle.std.specs.Prelude.{nat_lt, slice_get, unwrap_or}
+use Rattle.std.specs.Prelude.{nat_le, nat_lt, slice_get, unwrap_or}
 use Rattle.std.specs.List.{list_all, list_any}
 use Rattle.std.proofs.lemmas.Bool.{and_parts, cond_both}
 use Rattle.std.proofs.lemmas.Option.{cond_some}
@@ -12,7 +12,8 @@ use Rattle.tp_choice.specs.Choosing.{best_from, chosen_of_proposals, chosen_with
 use Rattle.tp_choice.specs.declared.answer.RecoveryAnswer.{RecoveryAnswer}
 use Rattle.tp_ops.specs.Parts.{is_accessed}
 use Rattle.tp_ops.specs.declared.command.Command.{Command}
-use Rattle.tp_process.specs.State.{AreLow, IsHomed, IsLow, IsLowAnswer}
+use Rattle.tp_paxos.specs.Votes.{PutStamp, count_votes, decision, voted_by}
+use Rattle.tp_process.specs.State.{AreLow, IsHomed, IsLow, IsLowAnswer, IsLowPut}
 use Rattle.tp_quorum.specs.Choice.{greatest, present}
 use Rattle.tp_rules.proofs.FitChoices.{best_fit, greatest_by_low}
 use Rattle.tp_rules.proofs.FitStamps.{with_fit}
@@ -20,7 +21,7 @@ use Rattle.tp_rules.proofs.Selections.{IfAny, each_replicate}
 use Rattle.tp_rules.specs.Addresses.{accessed, is_between, is_command_at}
 use Rattle.tp_rules.specs.Sheet.{Sheet, acknowledged, blank, final_stamp, with_command, putting, stamps_of, trying, with_accepted, with_answer, with_ballot, with_proposal, with_stamp, with_vote}
 use Rattle.tp_rules.specs.Tables.{flat, kept_at, with_nth}
-use Rattle.tp_topology.specs.Shape.{Shape}
+use Rattle.tp_topology.specs.Shape.{Shape, slow_size}
 
 low_set : (table : List (Option ℕ)) (i x : ℕ) → x < STAMP_LIMIT → AreLow table → AreLow (set table i (Some x))
 low_set [] i x lt h = tt
@@ -84,7 +85,7 @@ blank_low shape = record {
   home = tt;
   known = low_none shape.partitions;
   acknowledged = low_none shape.replicas;
-  put = omega arith;
+  put = tt;
   answers = each_replicate IsLowAnswer shape.replicas None tt;
 }
 
@@ -128,9 +129,19 @@ pub with_accepted_low : {shape : Shape} (b t : ℕ) (sheet : Sheet) → IsLow sh
 with_accepted_low b t sheet h =
     record { home = h.home; known = h.known; acknowledged = h.acknowledged; put = h.put; answers = h.answers }
 
+voted_low : (rank : ℕ) (o : Option PutStamp) → IsLowPut o → IsLowPut (voted_by rank o)
+voted_low rank None h = tt
+voted_low rank (Some put) h = h
+
 pub with_vote_low : {shape : Shape} (rank : ℕ) (sheet : Sheet) → IsLow shape sheet → IsLow shape (with_vote rank sheet)
 with_vote_low rank sheet h =
-    record { home = h.home; known = h.known; acknowledged = h.acknowledged; put = h.put; answers = h.answers }
+    record { home = h.home; known = h.known; acknowledged = h.acknowledged; put = voted_low rank sheet.put h.put; answers = h.answers }
+
+-- a stamp that is decided by votes is below the limit
+pub decided_low : (shape : Shape) (o : Option PutStamp) (t : ℕ) → IsLowPut o → decision shape o ≡ Some t → t < STAMP_LIMIT
+decided_low shape None t h e = absurd cc
+decided_low shape (Some put) t h e =
+    subst (λ (n : ℕ). n < STAMP_LIMIT) (cond_some (nat_le (slow_size shape) (count_votes put.votes)) put.stamp t e).1 h
 
 pub with_proposal_low : {shape : Shape} (t : ℕ) (made : Made) (sheet : Sheet) → IsLow shape sheet → IsLow shape (with_proposal t made sheet)
 with_proposal_low t made sheet h =

@@ -12,6 +12,7 @@ use Rattle.tp_choice.specs.declared.answer.RecoveryAnswer.{RecoveryAnswer}
 use Rattle.tp_ops.specs.declared.command.Command.{Command}
 use Rattle.tp_process.specs.Sheets.{sheet_at}
 use Rattle.tp_process.specs.declared.process.Process.{Process}
+use Rattle.tp_paxos.specs.Votes.{PutStamp}
 use Rattle.tp_rules.specs.Acts.{Act, Identity, ProcessAt}
 use Rattle.tp_rules.specs.Addresses.{is_between, message}
 use Rattle.tp_rules.specs.Process.{Step, ProcessState, answer_with_old_proposal, state_after, untold}
@@ -35,6 +36,11 @@ abbrev pub IsLowAnswer : Option RecoveryAnswer → Type 0
 IsLowAnswer None = Unit {0}
 IsLowAnswer (Some a) = a.stamp.0 < STAMP_LIMIT
 
+-- the stamp that is put, if any, is below the limit
+abbrev pub IsLowPut : Option PutStamp → Type 0
+IsLowPut None = Unit {0}
+IsLowPut (Some put) = put.stamp < STAMP_LIMIT
+
 -- a command's home, if any, is a rank of the shape
 abbrev pub IsHomed : Shape → Option Command → Type 0
 IsHomed shape None = Unit {0}
@@ -45,7 +51,7 @@ pub record IsLow (shape : Shape) (sheet : Sheet) : Type 0 where
   pub home : IsHomed shape sheet.command
   pub known : AreLow sheet.known
   pub acknowledged : AreLow sheet.acknowledged
-  pub put : sheet.putting_stamp < STAMP_LIMIT
+  pub put : IsLowPut sheet.put
   pub answers : Each IsLowAnswer sheet.answers
 
 abbrev pub site_sheet : Shape → Site → Sheet → SiteSheet

@@ -23,7 +23,7 @@ use Rattle.tp_rules.specs.Addresses.{rank_of, partition_of, is_name_of, is_body_
 use Rattle.tp_rules.specs.Executor as executor
 use Rattle.tp_rules.specs.Process as process
 use Rattle.tp_rules.specs.Session as session
-use Rattle.tp_rules.specs.Sheet.{Sheet, QuorumRule, blank, stamp_of, is_fresh, with_command, with_proposal, can_acknowledge, acknowledged, acknowledged_own, is_full, putting, can_accept, with_accepted, can_vote, with_vote, has_consensus, is_untouched, with_ballot, trying, can_answer, with_answer, is_recovered, with_stamp, final_stamp}
+use Rattle.tp_rules.specs.Sheet.{Sheet, QuorumRule, blank, stamp_of, is_fresh, with_command, with_proposal, can_acknowledge, acknowledged, acknowledged_own, is_full, putting, can_accept, with_accepted, can_vote, with_vote, stamp_decided, is_untouched, with_ballot, trying, can_answer, with_answer, is_recovered, with_stamp, final_stamp}
 use Rattle.tp_rules.specs.Tables.{nth}
 use Rattle.tp_rules.specs.declared.event.Inner.TheVariants.{Submit, Recover, Announce, Declare, Execute, Crash}
 use Rattle.tp_topology.specs.Ballots.{next_ballot}
@@ -111,11 +111,10 @@ module _ (P : Command → Type 0) where
   follow_choice_keeps s me id (Fast t) sheet state h k = learned_keeps s.shape me id me.partition.0 t.0 sheet state h k
   follow_choice_keeps s me id (Slow t) sheet state h k = put_sheet state.sheets id (putting s.shape me.rank.0 t.0 sheet) k h
 
-  voted_keeps : (s : QuorumRule) (me : Site) (id : CommandId) (sheet : Sheet) (state : process.ProcessState) →
-      KeepsOnly P state → Keeps P id sheet.command → Kept (process.voted s me id sheet state)
-  voted_keeps s me id sheet state h k =
-      cond_both (has_consensus s.shape sheet) (process.decided s.shape me id sheet.putting_stamp sheet state) (process.with_sheet id sheet state, []) Kept
-      (λ e. learned_keeps s.shape me id me.partition.0 sheet.putting_stamp sheet state h k) (λ e. put_sheet state.sheets id sheet k h)
+  voted_keeps : (s : QuorumRule) (me : Site) (id : CommandId) (o : Option ℕ) (sheet : Sheet) (state : process.ProcessState) →
+      KeepsOnly P state → Keeps P id sheet.command → Kept (process.voted s me id o sheet state)
+  voted_keeps s me id None sheet state h k = put_sheet state.sheets id sheet k h
+  voted_keeps s me id (Some t) sheet state h k = learned_keeps s.shape me id me.partition.0 t sheet state h k
 
   rec_keeps : (s : QuorumRule) (me : Site) (from : ActorName) (c : Command) (b : ℕ) (o : Option ℕ) (state : process.ProcessState) →
       KeepsOnly P state → P c → Kept (process.on_rec_by_stamp s me from c b o state)
@@ -182,8 +181,8 @@ module _ (P : Command → Type 0) where
       (λ e. h)
   row_keeps s me from (MConsensusAck id b) state h p =
       let sheet = with_vote (rank_of from) (state.sheets id) in
-      cond_both (can_vote me.partition.0 b (state.sheets id)) (process.voted s me id sheet state) (state, []) Kept
-      (λ e. voted_keeps s me id sheet state h (h id)) (λ e. h)
+      cond_both (can_vote me.partition.0 b (state.sheets id)) (process.voted s me id (stamp_decided s.shape sheet) sheet state) (state, []) Kept
+      (λ e. voted_keeps s me id (stamp_decided s.shape sheet) sheet state h (h id)) (λ e. h)
   row_keeps s me from (MRec c b) state h p = rec_keeps s me from c b (stamp_of (state.sheets c.id) me.partition.0) state h p
   row_keeps s me from (MRecAck id t made a b) state h p =
       let new : RecoveryAnswer = record { rank = record { 0 = rank_of from }; stamp = record { 0 = t.0 }; made = made; accepted = a } in

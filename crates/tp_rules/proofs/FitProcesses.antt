@@ -2,7 +2,7 @@
 -- for another command of the script. The steps that rules are made of keep it so.
 use Rattle.std.proofs.Common.{◌≡◌, ℕ, ◌<◌, ◌≤◌, ◌-◌, Bool, true, false, cond, List, max, map, Option, Some, None, refl, sym, ap, subst, ◌∙◌, arith}
 use Rattle.std.proofs.lemmas.Bool.{both_ways, cond-true, cond_both, ltb-false, ltb-true}
-use Rattle.std.specs.Prelude.{is_none, nat_lt, unwrap_or}
+use Rattle.std.specs.Prelude.{is_none, nat_le, nat_lt, unwrap_or}
 use Rattle.tp_base.proofs.Each.{each_in, each_of}
 use Rattle.tp_base.proofs.Members.{in_map}
 use Rattle.tp_base.proofs.SameNames.{same_id_is, same_id_refl}
@@ -14,6 +14,7 @@ use Rattle.tp_base.specs.declared.names.Made.{Made}
 use Rattle.tp_base.specs.declared.names.Pair.{Pair}
 use Rattle.tp_choice.specs.declared.answer.RecoveryAnswer.{RecoveryAnswer}
 use Rattle.tp_ops.specs.declared.command.Command.{Command}
+use Rattle.tp_paxos.specs.Votes.{PutStamp, count_votes, decision, voted_by}
 use Rattle.tp_rules.proofs.Distinct.{Distinct}
 use Rattle.tp_rules.proofs.Fit.{IsCommandHere}
 use Rattle.tp_rules.proofs.FitChoices.{AreAnswers, answered, unanswered}
@@ -21,8 +22,9 @@ use Rattle.tp_rules.proofs.FitPromises.{Descends, descends_higher}
 use Rattle.tp_rules.proofs.FitStamps.{with_fit}
 use Rattle.tp_rules.proofs.Selections.{IfAny, each_replicate}
 use Rattle.tp_rules.specs.Process.{ProcessState, bumped, proposing, start, with_sheet}
-use Rattle.tp_rules.specs.Sheet.{Proposed, Sheet, acknowledged, blank, command_or, is_untouched, with_command, putting, stamp_proposed, stamp_told, trying, with_accepted, with_answer, with_ballot, with_proposal, with_stamp, with_vote}
+use Rattle.tp_rules.specs.Sheet.{Proposed, Sheet, acknowledged, blank, command_or, is_untouched, with_command, putting, stamp_decided, stamp_proposed, stamp_told, trying, with_accepted, with_answer, with_ballot, with_proposal, with_stamp, with_vote}
 use Rattle.tp_script.specs.declared.script.Script.{Script}
+use Rattle.tp_topology.specs.Shape.{slow_size}
 use Rattle.tp_wire.specs.Ranges.{IsNumber}
 
 -- what is proposed and accepted is in range, and where a ballot was agreed to, something is proposed or accepted
@@ -37,7 +39,7 @@ pub record IsSheetSound (script : Script) (p : ℕ) (sheet : Sheet) : Type 0 whe
   pub command : IfAny (IsCommandHere script p) sheet.command
   pub known : Each (IfAny IsNumber) sheet.known
   pub acknowledged : Each (IfAny IsNumber) sheet.acknowledged
-  pub putting : 1 ≤ sheet.putting_ballot → IsNumber sheet.putting_stamp
+  pub put : IfAny (λ put. IsNumber put.stamp) sheet.put
   pub acceptor : IsAcceptorSound sheet.proposal sheet.ballot sheet.accepted_ballot sheet.accepted_stamp
   pub answers : AreAnswers script.topology.replicas sheet.answers
 
@@ -62,7 +64,7 @@ module _ (script : Script) (p : ℕ) where
     command = tt;
     known = each_replicate (IfAny IsNumber) script.topology.partitions None tt;
     acknowledged = each_replicate (IfAny IsNumber) script.topology.replicas None tt;
-    putting = λ some. absurd (omega (arith, some));
+    put = tt;
     acceptor = record {
       proposed = tt;
       low = omega arith;
@@ -95,7 +97,7 @@ module _ (script : Script) (p : ℕ) where
     command = command_or_here c sheet here sound;
     known = sound.known;
     acknowledged = sound.acknowledged;
-    putting = sound.putting;
+    put = sound.put;
     acceptor = sound.acceptor;
     answers = sound.answers;
   }
@@ -105,7 +107,7 @@ module _ (script : Script) (p : ℕ) where
     command = sound.command;
     known = sound.known;
     acknowledged = sound.acknowledged;
-    putting = sound.putting;
+    put = sound.put;
     acceptor = record {
       proposed = number;
       low = sound.acceptor.low;
@@ -120,7 +122,7 @@ module _ (script : Script) (p : ℕ) where
     command = sound.command;
     known = sound.known;
     acknowledged = with_fit (IfAny IsNumber) sheet.acknowledged rank (Some t) sound.acknowledged number;
-    putting = sound.putting;
+    put = sound.put;
     acceptor = sound.acceptor;
     answers = sound.answers;
   }
@@ -130,7 +132,7 @@ module _ (script : Script) (p : ℕ) where
     command = sound.command;
     known = with_fit (IfAny IsNumber) sheet.known q (Some t) sound.known number;
     acknowledged = sound.acknowledged;
-    putting = sound.putting;
+    put = sound.put;
     acceptor = sound.acceptor;
     answers = sound.answers;
   }
@@ -141,7 +143,7 @@ module _ (script : Script) (p : ℕ) where
         command = sound.command;
         known = sound.known;
         acknowledged = sound.acknowledged;
-        putting = λ some. number;
+        put = number;
         acceptor = sound.acceptor;
         answers = sound.answers;
       }
@@ -152,7 +154,7 @@ module _ (script : Script) (p : ℕ) where
     command = sound.command;
     known = sound.known;
     acknowledged = sound.acknowledged;
-    putting = sound.putting;
+    put = sound.put;
     acceptor = record {
       proposed = sound.acceptor.proposed;
       low = omega (arith, ballot.1);
@@ -169,7 +171,7 @@ module _ (script : Script) (p : ℕ) where
     command = sound.command;
     known = sound.known;
     acknowledged = sound.acknowledged;
-    putting = sound.putting;
+    put = sound.put;
     acceptor = record {
       proposed = sound.acceptor.proposed;
       low = sound.acceptor.low;
@@ -184,7 +186,7 @@ module _ (script : Script) (p : ℕ) where
     command = sound.command;
     known = sound.known;
     acknowledged = sound.acknowledged;
-    putting = sound.putting;
+    put = sound.put;
     acceptor = sound.acceptor;
     answers = unanswered script.topology.replicas;
   }
@@ -195,7 +197,7 @@ module _ (script : Script) (p : ℕ) where
     command = sound.command;
     known = sound.known;
     acknowledged = sound.acknowledged;
-    putting = sound.putting;
+    put = sound.put;
     acceptor = sound.acceptor;
     answers = answered script.topology.replicas sheet.answers a number sound.answers;
   }
@@ -224,15 +226,28 @@ module _ (script : Script) (p : ℕ) where
           at_a_ballot : is_none sheet.proposal ≡ true → 1 ≤ sheet.ballot
           at_a_ballot e = grind (arith, e, untouched)
 
+  voted_sound : (rank : ℕ) (o : Option PutStamp) → IfAny (λ put. IsNumber put.stamp) o → IfAny (λ put. IsNumber put.stamp) (voted_by rank o)
+  voted_sound rank None number = tt
+  voted_sound rank (Some put) number = number
+
   pub with_vote_sound : (rank : ℕ) (sheet : Sheet) → IsSheetSound script p sheet → IsSheetSound script p (with_vote rank sheet)
   with_vote_sound rank sheet sound = record {
     command = sound.command;
     known = sound.known;
     acknowledged = sound.acknowledged;
-    putting = sound.putting;
+    put = voted_sound rank sheet.put sound.put;
     acceptor = sound.acceptor;
     answers = sound.answers;
   }
+
+  -- and so is the stamp that is decided
+  pub decided_number : (sheet : Sheet) → IsSheetSound script p sheet → IfAny IsNumber (stamp_decided script.topology sheet)
+  decided_number sheet sound = of_put sheet.put sound.put
+    where
+      of_put : (o : Option PutStamp) → IfAny (λ put. IsNumber put.stamp) o → IfAny IsNumber (decision script.topology o)
+      of_put None number = tt
+      of_put (Some put) number =
+          cond_both (nat_le (slow_size script.topology) (count_votes put.votes)) (Some put.stamp) None (IfAny IsNumber) (λ t. number) (λ f. tt)
 
   -- states
 

@@ -1,5 +1,5 @@
 -- A process of an accepted script that took messages that are fit sends messages that are fit: each rule of it.
-use Rattle.std.proofs.Common.{◌≡◌, ℕ, ◌-◌, ◌<◌, ◌≤◌, Bool, true, false, List, [], ◌∷◌, length, Option, Some, None, refl, subst, arith}
+use Rattle.std.proofs.Common.{◌≡◌, ℕ, ◌-◌, ◌<◌, Bool, true, false, List, [], ◌∷◌, length, Option, Some, None, refl, subst, arith}
 use Rattle.std.proofs.lemmas.Bool.{and_parts, cond_both, eqb-true, ltb-true}
 use Rattle.std.specs.Prelude.{is_none, is_some, nat_lt, slice_get, ◌==◌, ◌&&◌}
 use Rattle.tp_base.proofs.Each.{each_append, each_in}
@@ -24,14 +24,14 @@ use Rattle.tp_quorum.specs.declared.choice.FastChoice.{FastChoice}
 use Rattle.tp_quorum.specs.declared.choice.FastChoice.TheVariants.{Fast, Slow}
 use Rattle.tp_rules.proofs.Fit.{IsBodyOf, IsCommandHere, IsFit, IsFitAct, IsProcessOf, known_process}
 use Rattle.tp_rules.proofs.FitChoices.{HasFastSize, next_ballot_number, recovery_number}
-use Rattle.tp_rules.proofs.FitProcesses.{IsProcessSound, IsSheetSound, acknowledged_sound, bumped_sound, command_or_here, ids_of, kept_sound, proposing_sound, putting_sound, stamp_told_number, start_sound, touched_before, trying_sound, with_accepted_sound, with_answer_sound, with_ballot_sound, with_proposal_sound, with_sheet_sound, with_stamp_sound, with_vote_sound}
+use Rattle.tp_rules.proofs.FitProcesses.{IsProcessSound, IsSheetSound, acknowledged_sound, bumped_sound, command_or_here, decided_number, ids_of, kept_sound, proposing_sound, putting_sound, stamp_told_number, start_sound, touched_before, trying_sound, with_accepted_sound, with_answer_sound, with_ballot_sound, with_proposal_sound, with_sheet_sound, with_stamp_sound, with_vote_sound}
 use Rattle.tp_rules.proofs.FitSends.{announced_fit, asked_fit, bumps_fit, commit_messages_fit, is_command, own_ballot, own_partition, own_site, proposals_fit, quorum_rule_of, commit_reply_fit, votes_fit}
 use Rattle.tp_rules.proofs.FitStamps.{IsChoiceInRange, choice_number, final_number, kept_fit, present_fit}
 use Rattle.tp_rules.proofs.Selections.{IfAny, each_get}
 use Rattle.tp_rules.specs.Acts.{Act, Took, Did}
 use Rattle.tp_rules.specs.Addresses.{is_between, is_body_at, is_name_of, is_site_of, rank_of}
 use Rattle.tp_rules.specs.Process.{Step, ProcessState, accept_and_vote, answer_with_old_proposal, announced, answer, bumps, follow_choice, commit_messages, decided, finished, conclude_fast_path, has_next, answer_recovery, learned, next_stamp, on_announce, on_body, on_commit, on_consensus, on_consensus_ack, on_payload, on_propose, on_propose_ack, on_rec, on_rec_ack, on_rec_by_stamp, on_recover, on_submit, proposals, propose_and_acknowledge, propose_and_answer, put_recovered, react, recovered, recovering, state_after, submitted, voted, with_room, with_sheet}
-use Rattle.tp_rules.specs.Sheet.{QuorumRule, Sheet, acknowledged, acknowledged_own, can_accept, can_acknowledge, can_answer, can_vote, command_or, final_stamp, has_consensus, is_fresh, is_full, is_recovered, is_untouched, with_command, putting, stamp_of, trying, with_accepted, with_answer, with_ballot, with_proposal, with_stamp, with_vote}
+use Rattle.tp_rules.specs.Sheet.{QuorumRule, Sheet, acknowledged, acknowledged_own, can_accept, can_acknowledge, can_answer, can_vote, command_or, final_stamp, stamp_decided, is_fresh, is_full, is_recovered, is_untouched, with_command, putting, stamp_of, trying, with_accepted, with_answer, with_ballot, with_proposal, with_stamp, with_vote}
 use Rattle.tp_rules.specs.declared.event.Inner.TheVariants.{Announce, Recover}
 use Rattle.tp_script.specs.Accepted.{IsAccepted, IsCommandOf, IsHome}
 use Rattle.tp_script.specs.declared.script.Script.{Script}
@@ -165,30 +165,19 @@ module _ (script : Script) (accepted : IsAccepted script) (in_quorum : Command �
       ))
       (λ cannot room. (sound, tt))
 
-  -- where a vote counts, a stamp is put
-  is_put : (b : ℕ) (sheet : Sheet) → can_vote me.partition.0 b sheet ≡ true → 1 ≤ sheet.putting_ballot
-  is_put b sheet can =
-      let unknown : Bool = is_none (stamp_of sheet me.partition.0) in
-      let both = and_parts (unknown && nat_lt 0 b) (sheet.putting_ballot == b) can in
-      let some : 0 < b = ltb-true 0 b (and_parts unknown (nat_lt 0 b) both.0).1 in
-      let same : sheet.putting_ballot ≡ b = eqb-true sheet.putting_ballot b both.1 in
-      omega (arith, some, same)
-
-  voted_fit : (id : CommandId) (sheet : Sheet) (state : ProcessState) → IsSound state → IsSheet sheet
-      → sheet.proposal ≡ (state.sheets id).proposal → 1 ≤ sheet.putting_ballot → Goes (voted quorum_rule me id sheet state)
-  voted_fit id sheet state sound new same put =
-      cond_both (has_consensus script.topology sheet) (decided script.topology me id sheet.putting_stamp sheet state)
-      (with_sheet id sheet state, []) Goes
-      (λ whole. decided_fit id sheet.putting_stamp sheet state sound new same (new.putting put))
-      (λ not_whole room. (with_sheet_sound script me.partition.0 id sheet state sound new same, tt))
+  voted_fit : (id : CommandId) (o : Option ℕ) (sheet : Sheet) (state : ProcessState) → IsSound state → IsSheet sheet
+      → sheet.proposal ≡ (state.sheets id).proposal → IfAny IsNumber o → Goes (voted quorum_rule me id o sheet state)
+  voted_fit id None sheet state sound new same number room = (with_sheet_sound script me.partition.0 id sheet state sound new same, tt)
+  voted_fit id (Some t) sheet state sound new same number room = decided_fit id t sheet state sound new same number room
 
   consensus_ack_fit : (from : ActorName) (id : CommandId) (b : ℕ) (state : ProcessState) → IsSound state
       → Goes (on_consensus_ack quorum_rule me from id b state)
   consensus_ack_fit from id b state sound =
       let sheet : Sheet = with_vote (rank_of from) (state.sheets id) in
-      cond_both (can_vote me.partition.0 b (state.sheets id)) (voted quorum_rule me id sheet state) (state, []) Goes
-      (λ can. voted_fit id sheet state sound (with_vote_sound script me.partition.0 (rank_of from) (state.sheets id) (sound.sheets id)) refl
-      (is_put b (state.sheets id) can))
+      cond_both (can_vote me.partition.0 b (state.sheets id)) (voted quorum_rule me id (stamp_decided script.topology sheet) sheet state) (state, []) Goes
+      (λ can.
+      let new : IsSheet sheet = with_vote_sound script me.partition.0 (rank_of from) (state.sheets id) (sound.sheets id) in
+      voted_fit id (stamp_decided script.topology sheet) sheet state sound new refl (decided_number script me.partition.0 sheet new))
       (λ cannot room. (sound, tt))
 
   payload_fit : (c : Command) (state : ProcessState) → IsSound state → IsHere c → Goes (on_payload c state)

@@ -26,7 +26,7 @@ use Rattle.tp_rules.specs.Session as session
 use Rattle.tp_rules.specs.Journal.{identity_in, client_of, act_of, acts}
 use Rattle.tp_rules.specs.Rules.{outputs_of}
 use Rattle.tp_rules.specs.Runs.{outputs_by, outputs_in, FollowsRules}
-use Rattle.tp_rules.specs.Sheet.{Sheet, QuorumRule, ring_rule, stamp_of, is_fresh, command_or, with_command, can_acknowledge, acknowledged, is_full, can_accept, can_vote, with_vote, has_consensus, is_untouched, can_answer, with_answer, is_recovered, with_stamp, final_stamp}
+use Rattle.tp_rules.specs.Sheet.{Sheet, QuorumRule, ring_rule, stamp_of, is_fresh, command_or, with_command, can_acknowledge, acknowledged, is_full, can_accept, can_vote, with_vote, stamp_decided, is_untouched, can_answer, with_answer, is_recovered, with_stamp, final_stamp}
 use Rattle.tp_rules.specs.Tables.{nth}
 use Rattle.tp_rules.specs.declared.event.Entry.{Entry}
 use Rattle.tp_rules.specs.declared.event.Inner.TheVariants.{Submit, Recover, Announce, Declare, Execute, Crash}
@@ -153,16 +153,15 @@ module _ (s : QuorumRule) (good : IsShape s.shape) (me : Site) where
       cond_both (can_accept me.partition.0 b sheet && nat_lt b STAMP_LIMIT) (process.accept_and_vote me from c t b sheet state) (state, []) IsShort
       (λ e. omega arith) (λ e. omega arith)
 
-  voted_short : (id : CommandId) (sheet : Sheet) (state : process.ProcessState) → IsShort (process.voted s me id sheet state)
-  voted_short id sheet state =
-      cond_both (has_consensus s.shape sheet) (process.decided s.shape me id sheet.putting_stamp sheet state) (process.with_sheet id sheet state, []) IsShort
-      (λ e. decided_short id sheet.putting_stamp sheet state) (λ e. omega arith)
+  voted_short : (id : CommandId) (o : Option ℕ) (sheet : Sheet) (state : process.ProcessState) → IsShort (process.voted s me id o sheet state)
+  voted_short id None sheet state = omega arith
+  voted_short id (Some t) sheet state = decided_short id t sheet state
 
   consensus_ack_short : (from : ActorName) (id : CommandId) (b : ℕ) (state : process.ProcessState) → IsShort (process.on_consensus_ack s me from id b state)
   consensus_ack_short from id b state =
       let sheet = with_vote (rank_of from) (state.sheets id) in
-      cond_both (can_vote me.partition.0 b (state.sheets id)) (process.voted s me id sheet state) (state, []) IsShort
-      (λ e. voted_short id sheet state) (λ e. omega arith)
+      cond_both (can_vote me.partition.0 b (state.sheets id)) (process.voted s me id (stamp_decided s.shape sheet) sheet state) (state, []) IsShort
+      (λ e. voted_short id (stamp_decided s.shape sheet) sheet state) (λ e. omega arith)
 
   commit_reply_short : (from : ActorName) (o : Option Command) (t : ℕ) → length (process.commit_reply me from o t) ≤ 1
   commit_reply_short from None t = omega arith

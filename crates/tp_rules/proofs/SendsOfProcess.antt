@@ -23,7 +23,7 @@ use Rattle.tp_quorum.specs.declared.choice.FastChoice.{FastChoice}
 use Rattle.tp_quorum.specs.declared.choice.FastChoice.TheVariants.{Fast, Slow}
 use Rattle.tp_rules.specs.Addresses.{message, to_each, site, rank_of}
 use Rattle.tp_rules.specs.Process.{ProcessState, Step, bumps, finished, learned, commit_messages, decided, put_to_vote, proposals, submitted, on_submit, propose_and_acknowledge, on_propose, on_payload, follow_choice, conclude_fast_path, on_propose_ack, accept_and_vote, on_consensus, voted, on_consensus_ack, commit_reply, propose_and_answer, answer_with_old_proposal, answer_recovery, on_rec_by_stamp, on_rec, put_recovered, recovered, on_rec_ack, asked, recovering, has_next, on_recover, on_commit, announced, on_announce, untold, with_room, next_stamp, with_sheet}
-use Rattle.tp_rules.specs.Sheet.{Sheet, QuorumRule, stamp_of, is_fresh, command_or, with_command, can_acknowledge, acknowledged, is_full, can_accept, can_vote, with_vote, has_consensus, made_of, stamp_told, is_untouched, with_ballot, with_proposal, can_answer, with_answer, is_recovered, with_stamp, final_stamp}
+use Rattle.tp_rules.specs.Sheet.{Sheet, QuorumRule, stamp_of, is_fresh, command_or, with_command, can_acknowledge, acknowledged, is_full, can_accept, can_vote, with_vote, stamp_decided, made_of, stamp_told, is_untouched, with_ballot, with_proposal, can_answer, with_answer, is_recovered, with_stamp, final_stamp}
 use Rattle.tp_topology.specs.Ballots.{next_ballot}
 use Rattle.tp_topology.specs.Shape.{Shape}
 use Rattle.tp_wire.specs.declared.message.Body.{Body}
@@ -153,13 +153,12 @@ module _ (M : Message → Type 0) (me : Site) where
       cond_both (can_accept me.partition.0 b sheet && nat_lt b STAMP_LIMIT) (accept_and_vote me from c t b sheet state) (state, []) (EachSent M)
       (λ e. (h, tt)) (λ e. tt)
 
-  pub voted_sends : (s : QuorumRule) (id : CommandId) (sheet : Sheet) (state : ProcessState) →
+  pub voted_sends : (s : QuorumRule) (id : CommandId) (o : Option ℕ) (sheet : Sheet) (state : ProcessState) →
       ((c : Command) (to : ActorName) (t : ℕ) → sheet.command ≡ Some c → M (message (Process me) to (MCommit c me.partition (stamp t)))) →
       ((c : Command) (t : ℕ) → sheet.command ≡ Some c → M (message (Process me) (Executor me) (MCommitted c (stamp t)))) →
-      EachSent M (voted s me id sheet state)
-  voted_sends s id sheet state h k =
-      cond_both (has_consensus s.shape sheet) (decided s.shape me id sheet.putting_stamp sheet state) (with_sheet id sheet state, []) (EachSent M)
-      (λ e. decided_sends s.shape id sheet.putting_stamp sheet state h k) (λ e. tt)
+      EachSent M (voted s me id o sheet state)
+  voted_sends s id None sheet state h k = tt
+  voted_sends s id (Some t) sheet state h k = decided_sends s.shape id t sheet state h k
 
   pub on_consensus_ack_sends : (s : QuorumRule) (from : ActorName) (id : CommandId) (b : ℕ) (state : ProcessState) →
       ((c : Command) (to : ActorName) (t : ℕ) → (state.sheets id).command ≡ Some c → M (message (Process me) to (MCommit c me.partition (stamp t)))) →
@@ -167,8 +166,8 @@ module _ (M : Message → Type 0) (me : Site) where
       EachSent M (on_consensus_ack s me from id b state)
   on_consensus_ack_sends s from id b state h k =
       let sheet = with_vote (rank_of from) (state.sheets id) in
-      cond_both (can_vote me.partition.0 b (state.sheets id)) (voted s me id sheet state) (state, []) (EachSent M)
-      (λ e. voted_sends s id sheet state h k) (λ e. tt)
+      cond_both (can_vote me.partition.0 b (state.sheets id)) (voted s me id (stamp_decided s.shape sheet) sheet state) (state, []) (EachSent M)
+      (λ e. voted_sends s id (stamp_decided s.shape sheet) sheet state h k) (λ e. tt)
 
   pub on_commit_sends : (s : QuorumRule) (c : Command) (q t : ℕ) (state : ProcessState) →
       ((d : Command) (t : ℕ) → (with_command c (state.sheets c.id)).command ≡ Some d → M (message (Process me) (Executor me) (MCommitted d (stamp t)))) →

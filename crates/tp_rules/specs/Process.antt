@@ -20,7 +20,7 @@ use Rattle.tp_quorum.specs.declared.choice.FastChoice.{FastChoice}
 use Rattle.tp_quorum.specs.declared.choice.FastChoice.TheVariants.{Fast, Slow}
 use Rattle.tp_rules.specs.Acts.{Act, Took, Did}
 use Rattle.tp_rules.specs.Addresses.{site, message, to_each, others_accessed, accessed, processes_of, executors_of, rank_of, is_name_of, is_body_at}
-use Rattle.tp_rules.specs.Sheet.{Sheet, QuorumRule, blank, stamp_of, is_fresh, command_or, with_command, with_proposal, can_acknowledge, acknowledged, acknowledged_own, is_full, putting, can_accept, with_accepted, can_vote, with_vote, has_consensus, made_of, stamp_told, is_untouched, with_ballot, trying, can_answer, with_answer, is_recovered, with_stamp, final_stamp}
+use Rattle.tp_rules.specs.Sheet.{Sheet, QuorumRule, blank, stamp_of, is_fresh, command_or, with_command, with_proposal, can_acknowledge, acknowledged, acknowledged_own, is_full, putting, can_accept, with_accepted, can_vote, with_vote, stamp_decided, made_of, stamp_told, is_untouched, with_ballot, trying, can_answer, with_answer, is_recovered, with_stamp, final_stamp}
 use Rattle.tp_rules.specs.declared.event.Inner.{Inner}
 use Rattle.tp_rules.specs.declared.event.Inner.TheVariants.{Announce, Recover}
 use Rattle.tp_topology.specs.Ballots.{next_ballot}
@@ -164,15 +164,14 @@ on_consensus me from c t b state = cond (can_accept me.partition.0 b (state.shee
     (state, [])
 
 -- where a consensus quorum has voted, the stamp that is put is decided
-abbrev pub voted : QuorumRule → Site → CommandId → Sheet → ProcessState → Step
-voted s me id sheet state = cond (has_consensus s.shape sheet)
-    (decided s.shape me id sheet.putting_stamp sheet state)
-    (with_sheet id sheet state, [])
+abbrev pub voted : QuorumRule → Site → CommandId → Option ℕ → Sheet → ProcessState → Step
+voted s me id None sheet state = (with_sheet id sheet state, [])
+voted s me id (Some t) sheet state = decided s.shape me id t sheet state
 
 -- MConsensusAck(id, b) from a rank, where its vote counts
 abbrev pub on_consensus_ack : QuorumRule → Site → ActorName → CommandId → ℕ → ProcessState → Step
 on_consensus_ack s me from id b state = cond (can_vote me.partition.0 b (state.sheets id))
-    (voted s me id (with_vote (rank_of from) (state.sheets id)) state)
+    (let sheet = with_vote (rank_of from) (state.sheets id) in voted s me id (stamp_decided s.shape sheet) sheet state)
     (state, [])
 
 -- MCommit(c, q, t), where c accesses q

@@ -5,11 +5,11 @@ use Rattle.tp_base.specs.declared.names.Made.{Made}
 use Rattle.tp_base.specs.declared.names.Made.TheVariants.{Proposal, Recovery}
 use Rattle.tp_choice.specs.declared.answer.RecoveryAnswer.{RecoveryAnswer}
 use Rattle.tp_ops.specs.declared.command.Command.{Command}
-use Rattle.tp_paxos.specs.Votes.{count_votes}
+use Rattle.tp_paxos.specs.Votes.{PutStamp, decision, is_put_at, unvoted, voted_by}
 use Rattle.tp_quorum.specs.Choice.{present, greatest}
 use Rattle.tp_rules.specs.Addresses.{accessed}
 use Rattle.tp_rules.specs.Tables.{with_nth, kept_at}
-use Rattle.tp_topology.specs.Shape.{Shape, in_ring, fast_size, slow_size, recovery_size}
+use Rattle.tp_topology.specs.Shape.{Shape, in_ring, fast_size, recovery_size}
 
 -- the store's shape, and which ranks are of a command's fast quorum: of the fast size, its home one of them
 pub record QuorumRule : Type 0 where
@@ -25,7 +25,7 @@ pub record Proposed : Type 0 where
   pub stamp : ℕ
   pub made : Made
 
--- known by partition, acknowledged, answers and votes by rank; a value put has a ballot above 0
+-- known by partition, acknowledged and answers by rank
 pub record Sheet : Type 0 where
   pub command : Option Command
   pub proposal : Option Proposed
@@ -36,9 +36,7 @@ pub record Sheet : Type 0 where
   pub acknowledged : List (Option ℕ)
   pub tried : ℕ
   pub answers : List (Option RecoveryAnswer)
-  pub putting_ballot : ℕ
-  pub putting_stamp : ℕ
-  pub votes : List Bool
+  pub put : Option PutStamp
 
 -- of a command that a process has not heard of
 unfoldable pub blank : Shape → Sheet
@@ -52,9 +50,7 @@ blank shape = record {
   acknowledged = replicate shape.replicas None;
   tried = 0;
   answers = replicate shape.replicas None;
-  putting_ballot = 0;
-  putting_stamp = 0;
-  votes = replicate shape.replicas false;
+  put = None;
 }
 
 -- the stamp of a partition, where it is known
@@ -93,7 +89,7 @@ is_member s home rank (Some c) = (c.home.0 == home) && s.in_quorum c rank
 abbrev pub can_acknowledge : QuorumRule → ℕ → ℕ → ℕ → Sheet → Bool
 can_acknowledge s p own rank sheet =
     is_member s own rank sheet.command && is_made_by_proposal sheet.proposal && (sheet.ballot == 0)
-    && (sheet.putting_ballot == 0) && is_none (stamp_of sheet p) && is_none (kept_at sheet.acknowledged rank)
+    && is_none sheet.put && is_none (stamp_of sheet p) && is_none (kept_at sheet.acknowledged rank)
     && nat_lt (length (present sheet.acknowledged)) (fast_size s.shape)
 
 abbrev pub acknowledged : ℕ → ℕ → Sheet → Sheet
@@ -109,7 +105,7 @@ is_full shape sheet = length (present sheet.acknowledged) == fast_size shape
 
 -- with a stamp put at a ballot, without votes
 abbrev pub putting : Shape → ℕ → ℕ → Sheet → Sheet
-putting shape b t sheet = record sheet { putting_ballot = b; putting_stamp = t; votes = replicate shape.replicas false }
+putting shape b t sheet = record sheet { put = Some (unvoted shape b t) }
 
 -- whether the process of a partition accepts at a ballot: the partition's stamp isn't known, and it agreed to no greater ballot
 abbrev pub can_accept : ℕ → ℕ → Sheet → Bool
@@ -121,14 +117,14 @@ with_accepted b t sheet = record sheet { ballot = b; accepted_ballot = b; accept
 
 -- whether the process of a partition counts a vote at a ballot: the partition's stamp isn't known, and one is put at that ballot
 abbrev pub can_vote : ℕ → ℕ → Sheet → Bool
-can_vote p b sheet = is_none (stamp_of sheet p) && nat_lt 0 b && (sheet.putting_ballot == b)
+can_vote p b sheet = is_none (stamp_of sheet p) && is_put_at b sheet.put
 
 abbrev pub with_vote : ℕ → Sheet → Sheet
-with_vote rank sheet = record sheet { votes = with_nth sheet.votes rank true }
+with_vote rank sheet = record sheet { put = voted_by rank sheet.put }
 
--- whether a consensus quorum has voted for what is put
-abbrev pub has_consensus : Shape → Sheet → Bool
-has_consensus shape sheet = nat_le (slow_size shape) (count_votes sheet.votes)
+-- the stamp that is put, where a consensus quorum has voted for it
+abbrev pub stamp_decided : Shape → Sheet → Option ℕ
+stamp_decided shape sheet = decision shape sheet.put
 
 abbrev pub stamp_proposed : Option Proposed → ℕ
 stamp_proposed None = 0
@@ -157,7 +153,7 @@ trying shape b sheet = record sheet { tried = b; answers = replicate shape.repli
 -- whether the process of a partition takes the answer of a rank to its recovery at a ballot
 abbrev pub can_answer : ℕ → ℕ → ℕ → Sheet → Bool
 can_answer p b rank sheet =
-    is_none (stamp_of sheet p) && (sheet.tried == b) && not (sheet.putting_ballot == b) && is_none (kept_at sheet.answers rank)
+    is_none (stamp_of sheet p) && nat_lt 0 b && (sheet.tried == b) && not (is_put_at b sheet.put) && is_none (kept_at sheet.answers rank)
 
 abbrev pub with_answer : RecoveryAnswer → Sheet → Sheet
 with_answer a sheet = record sheet { answers = with_nth sheet.answers a.rank.0 (Some a) }

@@ -6,7 +6,6 @@ use Rattle.std.specs.Bool.{OnTrue}
 use Rattle.std.specs.Prelude.{slice_get, nat_le, ◌&&◌}
 use Rattle.tp_choice.specs.declared.answer.RecoveryAnswer.{RecoveryAnswer}
 use Rattle.tp_paxos.proofs.Fronts.{take-set}
-use Rattle.tp_paxos.specs.Votes.{with_vote}
 use Rattle.tp_quorum.specs.Choice.{fast_choice, present}
 use Rattle.tp_quorum.specs.Gathered.{stamp_at, stamp_if_any, with_stamp_at}
 use Rattle.tp_quorum.specs.declared.choice.FastChoice.{FastChoice}
@@ -103,7 +102,3 @@ chosen shape sheet choice full e =
 pub where_true : {P Q : Type 0} (b : Bool) → (P → Q) → OnTrue b P → OnTrue b Q
 where_true true f h = f h
 where_true false f h = h
-
-pub with_vote-is : (votes : List Bool) (rank : ℕ) → with_vote votes rank ≡ with_nth votes rank true
-with_vote-is votes zero = refl
-with_vote-is votes (suc i) = refl

@@ -11,7 +11,7 @@ use Rattle.tp_quorum.specs.declared.choice.FastChoice.{FastChoice}
 use Rattle.tp_quorum.specs.declared.choice.FastChoice.TheVariants.{Fast, Slow}
 use Rattle.tp_rules.specs.Addresses.{is_between}
 use Rattle.tp_rules.specs.Process.{has_next}
-use Rattle.tp_rules.specs.Sheet.{Sheet, blank, can_acknowledge, acknowledged, acknowledged_own, is_full, is_made_by_proposal, is_member, putting, can_accept, with_accepted, can_vote, with_vote, has_consensus, made_of, stamp_told, with_ballot, trying, can_answer, with_answer, is_recovered, ring_rule, stamp_of, with_stamp, final_stamp}
+use Rattle.tp_rules.specs.Sheet.{Sheet, blank, can_acknowledge, acknowledged, acknowledged_own, is_full, is_made_by_proposal, is_member, putting, can_accept, with_accepted, can_vote, with_vote, stamp_decided, made_of, stamp_told, with_ballot, trying, can_answer, with_answer, is_recovered, ring_rule, stamp_of, with_stamp, final_stamp}
 use Rattle.tp_topology.specs.Ballots.{next_ballot}
 use Rattle.tp_topology.specs.Shape.{Shape, fast_size, in_ring}
 
@@ -49,7 +49,7 @@ takes_acknowledgement rank kept =
 abbrev pub is_gathering : ℕ → SiteSheet → Bool
 is_gathering rank kept =
     is_member (ring_rule kept.shape) kept.site.rank.0 rank kept.sheet.command && is_made_by_proposal kept.sheet.proposal
-    && (kept.sheet.ballot == 0) && (kept.sheet.putting_ballot == 0) && is_none (stamp_of kept.sheet kept.site.partition.0)
+    && (kept.sheet.ballot == 0) && is_none kept.sheet.put && is_none (stamp_of kept.sheet kept.site.partition.0)
     && nat_lt (length (present kept.sheet.acknowledged)) (fast_size kept.shape)
 
 -- the own proposal acknowledged, where it counts
@@ -88,13 +88,9 @@ with_acceptance t b kept =
 abbrev pub takes_vote : ℕ → ℕ → SiteSheet → Bool
 takes_vote rank b kept = is_between rank kept.shape.replicas && can_vote kept.site.partition.0 b kept.sheet
 
--- the stamp that is put, where a consensus quorum has voted for it
-abbrev pub decision_of : Shape → Sheet → Option ℕ
-decision_of shape sheet = cond (has_consensus shape sheet) (Some sheet.putting_stamp) None
-
 -- the decision that a rank's vote leads to
 abbrev pub decision_after_vote : ℕ → ℕ → SiteSheet → Option ℕ
-decision_after_vote rank b kept = cond (takes_vote rank b kept) (decision_of kept.shape (with_vote rank kept.sheet)) None
+decision_after_vote rank b kept = cond (takes_vote rank b kept) (stamp_decided kept.shape (with_vote rank kept.sheet)) None
 
 -- with a rank's vote, where it counts
 abbrev pub with_vote_of : ℕ → ℕ → SiteSheet → SiteSheet

@@ -22,9 +22,7 @@ view_of s = record {
     acknowledged = take s.topology.replicas s.gathered;
     tried = s.proposer.tried;
     answers = take s.topology.replicas s.answers;
-    putting_ballot = s.proposer.putting_ballot;
-    putting_stamp = s.proposer.putting_stamp.0;
-    votes = s.proposer.votes;
+    put = s.proposer.put;
   };
 }
 
@@ -34,7 +32,7 @@ IsRanked replicas None = Unit {0}
 IsRanked replicas (Some a) = (1 ≤ a.rank.0) × (a.rank.0 ≤ replicas)
 
 -- the tables have room for each partition and each replica, the site is one of them, and so are the ranks that proposed
--- and answered, and the votes are those of this shape
+-- and answered, and the proposer's shape is this one
 pub record IsSheet (s : Inside) : Type 0 where
   pub few_partitions : s.topology.partitions ≤ 4
   pub few_replicas : s.topology.replicas ≤ 7

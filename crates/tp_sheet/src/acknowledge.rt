@@ -52,7 +52,7 @@ impl Sheet {
         self.is_member(rank)
             && self.has_proposed()
             && self.acceptor.ballot == 0
-            && self.proposer.putting_ballot() == 0
+            && self.proposer.is_idle()
             && !self.knows(self.site.partition)
             && self.gathered() < self.topology.fast_size()
     }

@@ -141,8 +141,9 @@ impl Sheet {
         ensures { result ≡ can_answer self.now.site.partition.0 ballot rank.0 self.now.sheet }
     {
         !self.knows(self.site.partition)
+            && 0 < ballot
             && self.proposer.tried() == ballot
-            && self.proposer.putting_ballot() != ballot
+            && !self.proposer.is_put_at(ballot)
             && !self.has_answered(rank)
     }
 

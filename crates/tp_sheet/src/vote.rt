@@ -1,6 +1,7 @@
-ghost use Rattle.std.specs.Prelude.{◌≡◌, ◌≤◌, ◌==◌, ◌&&◌, cond};
+ghost use Rattle.std.specs.Prelude.{◌≡◌, ◌≤◌, None, cond};
 ghost use Rattle.std.specs.Option.{option_map};
-ghost use Rattle.tp_rules.specs.Sheet.{can_accept, has_consensus, with_vote};
+ghost use Rattle.tp_paxos.specs.Votes.{is_put_at};
+ghost use Rattle.tp_rules.specs.Sheet.{can_accept, stamp_decided, with_vote};
 ghost use Rattle.tp_sheet.specs.SiteSheet.{decision_after_vote, with_acceptance, with_sheet, with_vote_of};
 
 use crate::sheet::Sheet;
@@ -22,23 +23,18 @@ impl Sheet {
         ensures decision { option_map (λ t. t.0) result ≡ decision_after_vote rank.0 ballot self.old }
         ensures taken { self.new ≡ with_vote_of rank.0 ballot self.old }
     {
-        if ballot == 0 || !self.has_rank(rank) || self.knows(self.site.partition) {
+        if !self.has_rank(rank) || self.knows(self.site.partition) {
             return None;
         }
-        if self.count_vote(rank, ballot) {
-            Some(self.proposer.putting_stamp())
-        } else {
-            None
-        }
+        self.count_vote(rank, ballot)
     }
 
-    /// Takes a rank's vote where it is at the ballot that is put, and tells whether it decides.
-    fn count_vote(&mut self, rank: Rank, ballot: u64) -> bool
+    /// Takes a rank's vote where it is at the ballot that is put, and gives what it decides.
+    fn count_vote(&mut self, rank: Rank, ballot: u64) -> Option<Stamp>
         requires some { 1 ≤ rank.0 }
         requires few { rank.0 ≤ self.old.shape.replicas }
-        requires ballot { 1 ≤ ballot }
-        ensures decides { result ≡ ((self.old.sheet.putting_ballot == ballot) && has_consensus self.old.shape (with_vote rank.0 self.old.sheet)) }
-        ensures counted { self.new ≡ with_sheet (cond (self.old.sheet.putting_ballot == ballot) (with_vote rank.0 self.old.sheet) self.old.sheet) self.old }
+        ensures decides { option_map (λ t. t.0) result ≡ cond (is_put_at ballot self.old.sheet.put) (stamp_decided self.old.shape (with_vote rank.0 self.old.sheet)) None }
+        ensures counted { self.new ≡ with_sheet (cond (is_put_at ballot self.old.sheet.put) (with_vote rank.0 self.old.sheet) self.old.sheet) self.old }
     {
         self.proposer.vote(rank, ballot)
     }

@@ -1,5 +1,5 @@
-use Rattle.std.proofs.Common.{ℕ, sym, subst, ◌∙◌}
-use Rattle.tp_process.proofs.Recovering.{late_fits, late_stamp, not_refused, proposes_late_now}
+use Rattle.std.proofs.Common.{ℕ, sym, subst}
+use Rattle.tp_process.proofs.Recovering.{late_fits, late_stamp, proposes_late_now}
 use Rattle.tp_process.specs.State.{IsState}
 use Rattle.tp_rules.specs.Process.{propose_and_answer}
 use Rattle.tp_rules.specs.Sheet.{ring_rule}
