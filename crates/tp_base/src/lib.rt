@@ -6,6 +6,7 @@ mod names;
 mod partition;
 mod put;
 mod sequence;
+mod shared;
 
 pub use cut::{Cut, CutFault};
 pub use names::{
@@ -14,4 +15,5 @@ pub use names::{
 };
 pub use partition::partition_of;
 pub use put::Put;
-pub use sequence::{Bytes, Duplicate, Pairs, Picks, Sequence};
+pub use sequence::{Bytes, Duplicate, Picks, Sequence};
+pub use shared::{Pairs, Shared};

@@ -16,9 +16,6 @@ pub struct Sequence<T> {
 /// Bytes of a text, a key or a value.
 pub type Bytes = Sequence<u8>;
 
-/// Attached promises.
-pub type Pairs = Sequence<Pair>;
-
 /// The numbers by which a run chooses its steps, or the numbers of the calls that fail.
 pub type Picks = Sequence<u32>;
 

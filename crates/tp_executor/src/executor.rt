@@ -14,7 +14,7 @@ use crate::why::Why;
 use std::alloc::Global;
 use tp_base::{ActorName, CommandId, Duplicate, Key, NoMemory, Pairs, Sequence, Site, Stamp};
 use tp_mstable::Declared;
-use tp_ops::{Answers, Command, part};
+use tp_ops::{Answers, Command};
 use tp_promise::Book;
 use tp_queue::Queue;
 use tp_rules::{Actor, Inner, Outputs};
@@ -241,8 +241,7 @@ impl Executor {
             return Ok(Sequence::new(self.alloc));
         };
         let partitions = self.topology.partitions();
-        let ops = part(self.alloc, &command, partitions, self.site.partition)?;
-        let answers = self.store.apply(&ops)?;
+        let answers = self.store.apply(&command, partitions, self.site.partition)?;
         result_of(self.alloc, self.site, command.id, answers)
     }
 

@@ -1,10 +1,8 @@
-ghost use Rattle.std.specs.Prelude.{◌≡◌, ◌≤◌, length, IfOk};
+ghost use Rattle.std.specs.Prelude.{◌≡◌, ◌≤◌, length};
 ghost use Rattle.tp_ops.specs.Parts.{is_accessed, ops_on};
 
 use crate::command::Command;
-use crate::operation::Ops;
-use std::alloc::Global;
-use tp_base::{Duplicate, NoMemory, PartitionId, Sequence, partition_of};
+use tp_base::{PartitionId, partition_of};
 
 /// Whether some operation of a command is on a partition.
 #[tactic(auto, unfolding(crate::specs::Parts::is_accessed))]
@@ -33,20 +31,4 @@ pub fn count_on(c: &Command, partitions: u8, p: PartitionId) -> usize
         }
     }
     count
-}
-
-/// The operations of a command that are on a partition, in order.
-#[tactic(auto, unfolding(crate::specs::Parts::ops_on))]
-pub fn part(alloc: Global, c: &Command, partitions: u8, p: PartitionId) -> Result<Ops, NoMemory>
-    requires some { 1 ≤ partitions }
-    requires few { partitions ≤ 4 }
-    ensures { IfOk result (λ ops. ops ≡ ops_on partitions p.0 c.now.ops) }
-{
-    let mut ops = Sequence::new(alloc);
-    for op in c.ops.as_slice() {
-        if partition_of(op.key(), partitions) == p {
-            ops.add(op.copy()?)?;
-        }
-    }
-    Ok(ops)
 }

@@ -6,7 +6,7 @@ mod command;
 mod operation;
 mod parts;
 
-pub use access::{accesses, count_on, part};
+pub use access::{accesses, count_on};
 pub use command::Command;
 pub use operation::{Answer, Answers, Op, Ops};
 pub use parts::{Parts, merge};

@@ -1,7 +1,7 @@
 ghost use Rattle.std.specs.Prelude.{◌≡◌};
 ghost use Rattle.tp_ops.specs.Parts.{key_of};
 
-use tp_base::{Bytes, Duplicate, NoMemory, Sequence};
+use tp_base::{Bytes, Duplicate, NoMemory, Shared};
 
 /// An operation on one key.
 #[derive(Debug, Drop)]
@@ -13,7 +13,7 @@ pub enum Op {
 }
 
 /// A command's operations, or those of one partition.
-pub type Ops = Sequence<Op>;
+pub type Ops = Shared<Op>;
 
 /// What an operation answers: the value before or none, or whether it had an effect.
 #[derive(Debug, Drop)]
@@ -25,7 +25,7 @@ pub enum Answer {
 }
 
 /// The answers to a list of operations, in their order.
-pub type Answers = Sequence<Answer>;
+pub type Answers = Shared<Answer>;
 
 impl Op {
     /// The key that it reads or writes.

@@ -90,5 +90,5 @@ pub fn merge(alloc: Global, c: &Command, partitions: u8, parts: &Parts) -> Resul
             taken[place] += 1;
         }
     }
-    Ok(merged)
+    Answers::new(alloc, merged)
 }

@@ -5,7 +5,7 @@ ghost use Rattle.tp_rules.specs.Process.{ProcessState, announced, on_announce};
 use crate::addresses::{executors_of, send_each};
 use crate::process::Process;
 use std::mem;
-use tp_base::{NoMemory, Sequence};
+use tp_base::{NoMemory, Pairs, Sequence};
 use tp_rules::Outputs;
 use tp_wire::Body;
 
@@ -32,11 +32,9 @@ impl Process {
         let place = self.place;
         let names = executors_of(self.alloc, &place.topology, place.site.partition)?;
         let (lo, hi) = self.clock.tell();
-        let body = Body::MPromises {
-            lo,
-            hi,
-            pairs: mem::replace(&mut self.untold, Sequence::new(self.alloc)),
-        };
+        let untold = mem::replace(&mut self.untold, Sequence::new(self.alloc));
+        let pairs = Pairs::new(self.alloc, untold)?;
+        let body = Body::MPromises { lo, hi, pairs };
         send_each(&mut outputs, place.name(), names.as_slice(), &body)?;
         Ok(outputs)
     }

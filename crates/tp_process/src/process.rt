@@ -12,7 +12,7 @@ use crate::place::Place;
 use crate::sheets::{Sheets, final_stamp};
 use indexmap::IndexMap;
 use std::alloc::Global;
-use tp_base::{ActorName, CommandId, NoMemory, Pair, Pairs, STAMP_LIMIT, Sequence, Site, Stamp};
+use tp_base::{ActorName, CommandId, NoMemory, Pair, STAMP_LIMIT, Sequence, Site, Stamp};
 use tp_clock::Clock;
 use tp_rules::{Actor, Inner, Outputs};
 use tp_topology::Topology;
@@ -24,7 +24,7 @@ pub struct Process {
     pub(crate) alloc: Global,
     pub(crate) place: Place,
     pub(crate) clock: Clock,
-    pub(crate) untold: Pairs,
+    pub(crate) untold: Sequence<Pair>,
     pub(crate) sheets: Sheets,
     pub(crate) spent: bool,
 }

@@ -100,7 +100,7 @@ fn read_op_and_after(alloc: Global, words: &mut Words) -> Result<(Op, bool), Ref
 }
 
 // Keeps an operation, where fewer than sixteen are kept.
-fn keep(ops: &mut Ops, op: Op) -> Result<(), NoMemory>
+fn keep(ops: &mut Sequence<Op>, op: Op) -> Result<(), NoMemory>
     requires { length ops.old ≤ 16 }
     ensures kept { OnOk result (ops.new ≡ take 16 (ops.old ++ op ∷ [])) }
     ensures few { OnOk result (length ops.new ≤ 16) }
@@ -126,5 +126,5 @@ pub(crate) fn read_ops(alloc: Global, words: &mut Words) -> Result<(Ops, usize),
         count += 1;
         more = another;
     }
-    Ok((ops, count))
+    Ok((Ops::new(alloc, ops)?, count))
 }

@@ -1,12 +1,13 @@
 ghost use Rattle.std.specs.Option.{option_copied};
-ghost use Rattle.std.specs.Prelude.{◌≡◌, Some, None, IfOk, OnOk};
+ghost use Rattle.std.specs.Prelude.{◌≡◌, ◌≤◌, Some, None, IfOk, OnOk};
+ghost use Rattle.tp_ops.specs.Parts.{ops_on};
 ghost use Rattle.tp_ops.specs.Store.{after, after_all, answer_of, answers_of, empty, holds, value_before, with_value, yes_or_no};
 ghost use Rattle.tp_store.specs.Values.{contents_of};
 
 use std::alloc::Global;
 use std::collections::BTreeMap;
-use tp_base::{Bytes, Duplicate, NoMemory, Sequence};
-use tp_ops::{Answer, Answers, Op, Ops};
+use tp_base::{Bytes, Duplicate, NoMemory, PartitionId, Sequence, partition_of};
+use tp_ops::{Answer, Answers, Command, Op};
 
 /// The value of each key that is there.
 #[derive(Drop)]
@@ -33,16 +34,26 @@ impl Store {
         self.values.get(key)
     }
 
-    /// Does a list of operations, in order, and answers each.
-    pub fn apply(&mut self, part: &Ops) -> Result<Answers, NoMemory>
-        ensures answers { IfOk result (λ answers. answers ≡ answers_of part.now (contents_of self.old)) }
-        ensures contents { OnOk result (contents_of self.new ≡ after_all part.now (contents_of self.old)) }
+    /// Does those operations of a command that are on a partition, in order, and answers each.
+    #[tactic(auto, unfolding(tp_ops::specs::Parts::ops_on))]
+    pub fn apply(
+        &mut self,
+        c: &Command,
+        partitions: u8,
+        p: PartitionId,
+    ) -> Result<Answers, NoMemory>
+        requires some { 1 ≤ partitions }
+        requires few { partitions ≤ 4 }
+        ensures answers { IfOk result (λ answers. answers ≡ answers_of (ops_on partitions p.0 c.now.ops) (contents_of self.old)) }
+        ensures contents { OnOk result (contents_of self.new ≡ after_all (ops_on partitions p.0 c.now.ops) (contents_of self.old)) }
     {
         let mut answers = Sequence::new(self.alloc);
-        for op in part.as_slice() {
-            answers.add(self.perform(op)?)?;
+        for op in c.ops.as_slice() {
+            if partition_of(op.key(), partitions) == p {
+                answers.add(self.perform(op)?)?;
+            }
         }
-        Ok(answers)
+        Answers::new(self.alloc, answers)
     }
 
     /// Does an operation, and answers it.

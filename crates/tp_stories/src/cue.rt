@@ -3,7 +3,7 @@ use tp_base::{
     ActorName, CommandId, Duplicate, Made, NoMemory, PartitionId, Rank, Sequence, SessionId, Site,
     Stamp,
 };
-use tp_ops::{Command, Op};
+use tp_ops::{Command, Op, Ops};
 use tp_wire::{Body, Message};
 
 /// The command that each story is about.
@@ -71,7 +71,7 @@ pub(crate) fn put_b(alloc: Global) -> Result<Command, NoMemory> {
     Ok(Command {
         id: ID,
         home: Rank(1),
-        ops,
+        ops: Ops::new(alloc, ops)?,
     })
 }
 
@@ -83,7 +83,7 @@ pub(crate) fn put_both(alloc: Global) -> Result<Command, NoMemory> {
     Ok(Command {
         id: ID,
         home: Rank(1),
-        ops,
+        ops: Ops::new(alloc, ops)?,
     })
 }
 

@@ -67,7 +67,7 @@ fn take_so_many_ops(alloc: Global, cut: &mut Cut, count: u8) -> Result<Ops, Wire
         let op = take_op(alloc, cut)?;
         ops.add(op)?;
     }
-    Ok(ops)
+    Ok(Ops::new(alloc, ops)?)
 }
 
 #[tactic(auto, unfolding(crate::specs::Meaning::ops_at))]
@@ -123,7 +123,7 @@ fn take_so_many_answers(alloc: Global, cut: &mut Cut, count: u8) -> Result<Answe
         let answer = take_answer(alloc, cut)?;
         answers.add(answer)?;
     }
-    Ok(answers)
+    Ok(Answers::new(alloc, answers)?)
 }
 
 #[tactic(auto, unfolding(crate::specs::Meaning::answers_at))]

@@ -126,7 +126,7 @@ fn take_pairs_from(
         last = pair.stamp.0;
         pairs.add(pair)?;
     }
-    Ok(pairs)
+    Ok(Pairs::new(alloc, pairs)?)
 }
 
 /// A count, and so many pairs above lo up to hi, each above the one before.

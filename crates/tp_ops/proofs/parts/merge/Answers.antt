@@ -1,4 +1,5 @@
 use Rattle.std.proofs.Common.{◌≡◌, ◌<◌, ◌≤◌, ℕ, ◌-◌, ◌+◌, ◌++◌, ◌∷◌, [], List, get_or, length, Some, None, arith, ap, sym, subst, ◌∙◌, length-set}
+use Rattle.std.proofs.lemmas.Result.{IfOk-weaker}
 use Rattle.std.specs.Option.{option_copied}
 use Rattle.std.specs.Prelude.{slice_get}
 use Rattle.tp_base.specs.Partition.{partition_number}
@@ -37,6 +38,9 @@ loop-op-preserved c =
     ]
 
 pub returns : goal.returns
-returns c =
-    sym (merged_end c.args.partitions c.as_slice-op-items.result.now _ _ _ _ c.loop-op.invariant.so_far c.loop-op-test.false)
-    ∙ ap (λ (ops : List Op). merged c.args.partitions ops (answers_in c.args.parts.now)) c.as_slice-op-items.ensures
+returns c = IfOk-weaker c.new.result _ _ (λ answers same. same ∙ whole) c.new.ensures
+  where
+    whole : c.loop-op.merged ≡ merged c.args.partitions c.args.c.now.ops (answers_in c.args.parts.now)
+    whole =
+        sym (merged_end c.args.partitions c.as_slice-op-items.result.now _ _ _ _ c.loop-op.invariant.so_far c.loop-op-test.false)
+        ∙ ap (λ (ops : List Op). merged c.args.partitions ops (answers_in c.args.parts.now)) c.as_slice-op-items.ensures

@@ -18,7 +18,7 @@ pub returns-clause-outputs : goal.returns-clause-outputs
 returns-clause-outputs c =
     let e = c.args.self.now in
     let m : Committed = record { key = c.in-Some.field-0-0; command = c.in-Some.command } in
-    let ops = c.in_ok-ops.ensures ∙ ap (λ (n : ℕ). ops_on n e.site.partition.0 c.in-Some.command.ops) c.partitions-partitions.ensures.value in
+    let ops = ap (λ (n : ℕ). ops_on n e.site.partition.0 c.in-Some.command.ops) c.partitions-partitions.ensures.value in
     if_ok c.result_of.result _ _
     (λ outputs sent. executes_sends e m c.in_ok-answers.answers outputs c.in-Some.ensures.least
     (c.in_ok-answers.ensures.answers ∙ ap (λ (o : List Op). answers_of o (contents_of e.store)) ops) sent)
@@ -28,7 +28,7 @@ pub returns-clause-state : goal.returns-clause-state
 returns-clause-state c =
     let e = c.args.self.now in
     let m : Committed = record { key = c.in-Some.field-0-0; command = c.in-Some.command } in
-    let ops = c.in_ok-ops.ensures ∙ ap (λ (n : ℕ). ops_on n e.site.partition.0 c.in-Some.command.ops) c.partitions-partitions.ensures.value in
+    let ops = ap (λ (n : ℕ). ops_on n e.site.partition.0 c.in-Some.command.ops) c.partitions-partitions.ensures.value in
     always c.result_of.result
     (executes e _ m c.in-Some.ensures.least c.in-Some.ensures.taken refl refl
     (c.in_ok-answers.ensures.contents ∙ ap (λ (o : List Op). after_all o (contents_of e.store)) ops))
