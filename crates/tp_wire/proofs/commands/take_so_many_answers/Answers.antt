@@ -13,4 +13,4 @@ loop-preserved c =
     rw c.in_ok-add.ensures.added (goes_on answer_at c.loop.answers c.args.count c.loop.counter c.loop.cut c.in_ok-answer.answer c.take_answer.new.cut (times_at answer_at c.args.count c.args.cut.now) c.loop-test.true c.in_ok-answer.ensures c.loop.invariant)
 
 pub returns : goal.returns
-returns c = is_done answer_at c.loop.answers c.args.count c.loop.counter c.loop.cut (times_at answer_at c.args.count c.args.cut.now) c.loop-test.false c.loop.invariant
+returns c = rw c.in_ok-new.ensures (is_done answer_at c.loop.answers c.args.count c.loop.counter c.loop.cut (times_at answer_at c.args.count c.args.cut.now) c.loop-test.false c.loop.invariant)

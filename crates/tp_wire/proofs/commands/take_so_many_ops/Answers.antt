@@ -13,4 +13,4 @@ loop-preserved c =
     rw c.in_ok-add.ensures.added (goes_on op_at c.loop.ops c.args.count c.loop.counter c.loop.cut c.in_ok-op.op c.take_op.new.cut (times_at op_at c.args.count c.args.cut.now) c.loop-test.true c.in_ok-op.ensures c.loop.invariant)
 
 pub returns : goal.returns
-returns c = is_done op_at c.loop.ops c.args.count c.loop.counter c.loop.cut (times_at op_at c.args.count c.args.cut.now) c.loop-test.false c.loop.invariant
+returns c = rw c.in_ok-new.ensures (is_done op_at c.loop.ops c.args.count c.loop.counter c.loop.cut (times_at op_at c.args.count c.args.cut.now) c.loop-test.false c.loop.invariant)

@@ -15,4 +15,4 @@ loop-preserved c = record {
 }
 
 pub returns : goal.returns
-returns c = pairs_done c.loop.pairs c.args.count c.loop.counter c.loop.last c.args.hi c.loop.cut (pairs_from c.args.count c.args.lo c.args.hi c.args.cut.now) c.loop-test.false c.loop.invariant.read
+returns c = rw c.in_ok-new.ensures (pairs_done c.loop.pairs c.args.count c.loop.counter c.loop.last c.args.hi c.loop.cut (pairs_from c.args.count c.args.lo c.args.hi c.args.cut.now) c.loop-test.false c.loop.invariant.read)
