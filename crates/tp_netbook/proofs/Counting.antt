@@ -8,7 +8,7 @@ use Rattle.tp_base.proofs.Ends.{get_set_other, get_set_same}
 use Rattle.tp_base.specs.declared.names.ActorName.{ActorName}
 use Rattle.tp_base.specs.declared.names.ActorName.TheVariants.{Process, Executor, Session}
 use Rattle.tp_base.specs.declared.names.Site.{Site}
-use Rattle.tp_netbook.specs.Netbook.{AreCounted, IsCounted, IsCountedAt, is_alive, lives, watch_of}
+use Rattle.tp_netbook.specs.Netbook.{AreCounted, IsCounted, IsCountedAt}
 use Rattle.tp_netbook.specs.Places.{place_of_site}
 use Rattle.tp_netbook.specs.declared.netbook.Netbook.{Netbook}
 use Rattle.tp_netbook.specs.declared.watch.Watch.{Watch}
@@ -46,10 +46,6 @@ counted_at s event book place w w' is at counted = record { many = length-set bo
       | inr apart ↦ (v', sym (get_set_other book.sites.items place k w' apart) ∙ there, ((λ e. absurd (apart (e ∙ sym is))), λ e. refl))
     ]
 
-watch_alike : (book then : Netbook) (s : Site) → then.topology ≡ book.topology → then.sites ≡ book.sites → lives (watch_of then s) ≡ lives (watch_of book s)
-watch_alike book then s topology sites =
-    ap (λ ws. lives (slice_get ws.items (place_of_site then.topology s))) sites ∙ ap (λ shape. lives (slice_get book.sites.items (place_of_site shape s))) topology
-
 -- the outputs of an entry, one after the other
 
 pub numbered_next : (n k i : ℕ) (ms : List Message) (m : Message) → slice_get ms i ≡ Some m → numbered n k (take (i + 1) ms) ≡ numbered n k (take i ms) ++ parcel n (k + i) m ∷ []
@@ -69,9 +65,3 @@ numbered_next n k (suc i) (x ∷ ms) m at =
 pub item_there : (ms now : List Message) (i : ℕ) (m : Message) → now ≡ ms → m ≡ get_or now i m → (end : ℕ) → i < end → end ≡ length ms → slice_get ms i ≡ Some m
 item_there ms now i m same is end lt many =
     slice_get-get_or ms i m (omega arith) ∙ ap (λ (l : List Message). Some (get_or l i m)) (sym same) ∙ ap (λ (x : Message). Some x) (sym is)
-
--- who lives is a matter of the watches
-pub alive_alike : (book then : Netbook) (a : ActorName) → then.topology ≡ book.topology → then.sites ≡ book.sites → is_alive book a ≡ is_alive then a
-alive_alike book then (Process s) topology sites = sym (watch_alike book then s topology sites)
-alive_alike book then (Executor s) topology sites = sym (watch_alike book then s topology sites)
-alive_alike book then (Session s) topology sites = refl

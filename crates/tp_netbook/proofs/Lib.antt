@@ -3,11 +3,13 @@ pub mod Parts
 pub mod Rosters
 pub mod SameRoutes
 pub mod FateTables
-pub mod FirstTimes
 pub mod RouteCounts
 pub mod Watches
 pub mod Outputs
+pub mod Starts
+pub mod Marks
 pub mod Counting
 pub mod Adding
 pub mod NewOutputs
+pub mod Turned
 pub mod Steps

@@ -1,5 +1,5 @@
 -- The outputs of an entry have the fates of their numbers, counted after those sent before. Used for a netbook after one more entry.
-use Rattle.std.proofs.Common.{◌≡◌, ℕ, suc, ◌<◌, inl, inr, Bool, true, false, cond, List, [], ◌∷◌, ◌++◌, length, map, refl, sym, ap, ◌∙◌, append_assoc, arith}
+use Rattle.std.proofs.Common.{◌≡◌, ℕ, suc, ◌<◌, inl, inr, Bool, true, false, List, [], ◌∷◌, ◌++◌, length, map, refl, sym, ap, ◌∙◌, append_assoc, arith}
 use Rattle.std.proofs.lemmas.Bool.{and_from, and_right, eq-eqb, le-leb, le-ltb, lt-leb, lt-ltb, or_from, or_left, or_right}
 use Rattle.std.proofs.lemmas.List.{length-append}
 use Rattle.std.proofs.lemmas.List.Elements.{filter-append}
@@ -7,7 +7,6 @@ use Rattle.std.specs.Prelude.{◌⊎◌, ◌==◌, ◌&&◌, ◌||◌, filter, n
 use Rattle.tp_base.proofs.Members.{in_either}
 use Rattle.tp_base.proofs.SameNames.{same_name_refl}
 use Rattle.tp_base.specs.Lists.{IsIn}
-use Rattle.tp_base.specs.declared.names.ActorName.{ActorName}
 use Rattle.tp_netbook.proofs.Outputs.{filter_like, left_at_first}
 use Rattle.tp_netbook.proofs.Parts.{and_true}
 use Rattle.tp_netbook.specs.Netbook.{added, new_outputs, next_number}
@@ -16,22 +15,13 @@ use Rattle.tp_netbook.specs.Routes.{route_of, same_route}
 use Rattle.tp_netbook.specs.declared.output.Output.{Output}
 use Rattle.tp_rules.proofs.Parcels.{numbered_parts, parcel}
 use Rattle.tp_rules.proofs.Tallies.{filter_none, filter_yes}
-use Rattle.tp_rules.specs.Journal.{is_live, numbered, sent}
+use Rattle.tp_rules.specs.Journal.{numbered, sent}
 use Rattle.tp_rules.specs.Plan.{Fate, deliveries_left, fate_by, fate_of, is_counted_to, left_by, ordinal_of}
 use Rattle.tp_rules.specs.Runs.{IsFreeHistory}
 use Rattle.tp_rules.specs.declared.event.Entry.{Entry}
 use Rattle.tp_rules.specs.declared.event.Parcel.{Parcel}
 use Rattle.tp_script.specs.declared.script.Script.{Script}
 use Rattle.tp_wire.specs.declared.message.Message.{Message}
-
--- the image of one more that passes a test, and of one that doesn't
-kept_or_not : {X Y : Type 0} (f : X → Y) (test : X → Bool) (x : X) (xs : List X)
-    → cond (test x) (f x ∷ []) [] ++ map f (filter test xs) ≡ map f (filter test (x ∷ xs))
-kept_or_not {X} {Y} f test x xs = by (test x) refl
-  where
-    by : (b : Bool) → test x ≡ b → cond b (f x ∷ []) [] ++ map f (filter test xs) ≡ map f (filter test (x ∷ xs))
-    by true e = rw e refl
-    by false e = rw e refl
 
 -- an output was sent no later than the place of an entry, or later
 
@@ -89,29 +79,22 @@ module _ (script : Script) (older : List Entry) (e : Entry) (history : IsFreeHis
         left_at_first script older e history here refl ∙ ap (λ (f : Fate). left_by f 0 false) fate_is in
         sym (λ i. record { entry = n; place = k; to = m.to; lost = lost i; left = left i })
 
-  module _ (alive : ActorName → Bool) where
-    abbrev lives : Parcel → Bool
-    lives p = is_live (e ∷ older) p.message.to
-
-    pub new_are : (before : List Parcel) (k : ℕ) (ms : List Message) → sent (e ∷ older) ≡ before ++ numbered n k ms
-        → ((q : Parcel) → IsIn q before → IsEarlier n k q) → ((p : Parcel) → IsIn p (numbered n k ms) → alive p.message.to ≡ lives p)
-        → new_outputs script.plan alive before (numbered n k ms) ≡ map (output_of script (e ∷ older)) (filter lives (numbered n k ms))
-    new_are before k [] whole earlier same = refl
-    new_are before k (m ∷ ms) whole earlier same =
-        let p : Parcel = parcel n k m in
-        let ps : List Parcel = numbered n (suc k) ms in
-        let rest : new_outputs script.plan alive (before ++ p ∷ []) ps ≡ map (output_of script (e ∷ older)) (filter lives ps) =
-        new_are (before ++ p ∷ []) (suc k) ms (whole ∙ sym (append_assoc before (p ∷ []) ps)) next (λ q h. same q (inr h)) in
-        ap (λ (b : Bool). cond b (added script.plan before p ∷ []) [] ++ new_outputs script.plan alive (before ++ p ∷ []) ps) (same p (inl refl))
-        ∙ ap (λ (o : Output). cond (lives p) (o ∷ []) [] ++ new_outputs script.plan alive (before ++ p ∷ []) ps) (added_is before k m ms whole earlier)
-        ∙ ap (λ (l : List Output). cond (lives p) (output_of script (e ∷ older) p ∷ []) [] ++ l) rest
-        ∙ kept_or_not (output_of script (e ∷ older)) lives p ps
-      where
-        next : (q : Parcel) → IsIn q (before ++ parcel n k m ∷ []) → IsEarlier n (suc k) q
-        next q h = elim (in_either before (parcel n k m ∷ []) q h) [
-          | inl old ↦ elim (earlier q old) [ inl a ↦ inl a | inr b ↦ inr (b.0, omega (arith, b.1)) ]
-          | inr new ↦ elim new [
-            | inl is ↦ inr (ap (λ (p : Parcel). p.entry) is, (let place : q.place ≡ k = ap (λ (p : Parcel). p.place) is in omega arith))
-            | inr none ↦ absurd none
-          ]
+  pub new_are : (before : List Parcel) (k : ℕ) (ms : List Message) → sent (e ∷ older) ≡ before ++ numbered n k ms
+      → ((q : Parcel) → IsIn q before → IsEarlier n k q) → new_outputs script.plan before (numbered n k ms) ≡ map (output_of script (e ∷ older)) (numbered n k ms)
+  new_are before k [] whole earlier = refl
+  new_are before k (m ∷ ms) whole earlier =
+      let p : Parcel = parcel n k m in
+      let ps : List Parcel = numbered n (suc k) ms in
+      let rest : new_outputs script.plan (before ++ p ∷ []) ps ≡ map (output_of script (e ∷ older)) ps =
+      new_are (before ++ p ∷ []) (suc k) ms (whole ∙ sym (append_assoc before (p ∷ []) ps)) next in
+      ap (λ (o : Output). o ∷ new_outputs script.plan (before ++ p ∷ []) ps) (added_is before k m ms whole earlier)
+      ∙ ap (λ (l : List Output). output_of script (e ∷ older) p ∷ l) rest
+    where
+      next : (q : Parcel) → IsIn q (before ++ parcel n k m ∷ []) → IsEarlier n (suc k) q
+      next q h = elim (in_either before (parcel n k m ∷ []) q h) [
+        | inl old ↦ elim (earlier q old) [ inl a ↦ inl a | inr b ↦ inr (b.0, omega (arith, b.1)) ]
+        | inr new ↦ elim new [
+          | inl is ↦ inr (ap (λ (p : Parcel). p.entry) is, (let place : q.place ≡ k = ap (λ (p : Parcel). p.place) is in omega arith))
+          | inr none ↦ absurd none
         ]
+      ]

@@ -1,24 +1,16 @@
--- The outputs that may still be delivered or lost, after one more entry.
-use Rattle.std.proofs.Common.{◌≡◌, ℕ, suc, ◌-◌, ◌*◌, ◌<◌, ◌≤◌, inl, inr, Bool, true, false, cond, List, [], ◌∷◌, ◌++◌, length, map, Option, Some, None, refl, sym, ap, ◌∙◌, arith}
-use Rattle.std.specs.List.{retain_mut}
-use Rattle.std.specs.Prelude.{not, nat_lt, ◌&&◌, ◌||◌, ◌==◌, filter}
-use Rattle.std.proofs.lemmas.Bool.{and_left, cases_Bool, cond-false, cond-true, lt-ltb, ltb-true, ne_eqb}
+-- The outputs of a netbook after one more entry.
+use Rattle.std.proofs.Common.{◌≡◌, ℕ, suc, ◌-◌, ◌*◌, ◌<◌, ◌≤◌, inl, inr, Bool, true, false, cond, List, [], ◌∷◌, length, map, Option, Some, None, refl, sym, ap, ◌∙◌, arith}
+use Rattle.std.specs.Prelude.{◌&&◌, ◌||◌, ◌==◌, filter}
+use Rattle.std.proofs.lemmas.Bool.{and_left, cases_Bool, cond-false, cond-true, ne_eqb}
 use Rattle.std.proofs.lemmas.List.{length-append}
-use Rattle.std.proofs.lemmas.List.Elements.{filter-append}
 use Rattle.tp_base.specs.Lists.{IsIn}
-use Rattle.tp_base.specs.declared.names.ActorName.{ActorName}
-use Rattle.tp_base.specs.declared.names.ActorName.TheVariants.{Process, Executor, Session}
-use Rattle.tp_netbook.proofs.FirstTimes.{some_left}
-use Rattle.tp_netbook.proofs.Parts.{and_true}
-use Rattle.tp_netbook.specs.Netbook.{outputs_left}
-use Rattle.tp_netbook.specs.Outputs.{crashes, is_named, loses, output_of, passed, waits}
+use Rattle.tp_netbook.specs.Outputs.{is_named, loses, output_of, passed}
 use Rattle.tp_netbook.specs.declared.output.Output.{Output}
-use Rattle.tp_rules.proofs.DeliveriesLeft.{deliveries_fall}
 use Rattle.tp_rules.proofs.HowMany.{outputs_few}
-use Rattle.tp_rules.proofs.Parcels.{fate_stays, length-numbered, numbered_parts, output_sent, parcel, sent_within}
+use Rattle.tp_rules.proofs.Parcels.{fate_stays, length-numbered, output_sent, parcel, sent_within}
 use Rattle.tp_rules.proofs.Tallies.{count_no, count_yes, filter_no, filter_yes}
-use Rattle.tp_rules.specs.Journal.{has_crashed, is_delivery_of, is_live, is_loss_of, numbered, output_at, sent}
-use Rattle.tp_rules.specs.Plan.{Fate, Lost, Times, deliveries, deliveries_left, fate_of, left_by, ordinal_of, was_lost}
+use Rattle.tp_rules.specs.Journal.{is_delivery_of, is_loss_of, numbered, output_at, sent}
+use Rattle.tp_rules.specs.Plan.{Fate, Lost, Times, deliveries, deliveries_left, fate_of, left_by, was_lost}
 use Rattle.tp_rules.specs.Runs.{FollowsRules, IsFor, IsFreeHistory, MayHappen}
 use Rattle.tp_rules.specs.declared.event.Entry.{Entry}
 use Rattle.tp_rules.specs.declared.event.Event.{Event}
@@ -39,27 +31,11 @@ filter_like {X} p q (x ∷ xs) h =
       | inr f ↦ filter_no q x xs (here ∙ f) ∙ rest ∙ sym (filter_no p x xs f)
     ]
 
--- images that are changed, and kept where they pass a test then
-retained : {X Y : Type 0} (f f' : X → Y) (change : Y → Y) (test : Y → Bool) (p p' : X → Bool) (xs : List X)
-    → ((x : X) → IsIn x xs → change (f x) ≡ f' x) → ((x : X) → IsIn x xs → p' x ≡ (p x && test (f' x)))
-    → retain_mut (λ y. test (change y)) change (map f (filter p xs)) ≡ map f' (filter p' xs)
-retained f f' change test p p' [] same passes = refl
-retained {X} {Y} f f' change test p p' (x ∷ xs) same passes =
-    by (p x) (test (f' x)) refl refl (same x (inl refl)) (passes x (inl refl))
-    (retained f f' change test p p' xs (λ y k. same y (inr k)) (λ y k. passes y (inr k)))
-  where
-    by : (a b : Bool) → p x ≡ a → test (f' x) ≡ b → change (f x) ≡ f' x → p' x ≡ (p x && test (f' x))
-        → retain_mut (λ y. test (change y)) change (map f (filter p xs)) ≡ map f' (filter p' xs)
-        → retain_mut (λ y. test (change y)) change (map f (filter p (x ∷ xs))) ≡ map f' (filter p' (x ∷ xs))
-    by true true a b c d rest =
-        let kept : p' x ≡ true = d ∙ rw a b in
-        rw (a, kept) (rw c (rw b (ap (λ (l : List Y). f' x ∷ l) rest)))
-    by true false a b c d rest =
-        let gone : p' x ≡ false = d ∙ rw a b in
-        rw (a, gone) (rw c (rw b rest))
-    by false b a _ c d rest =
-        let gone : p' x ≡ false = d ∙ rw a refl in
-        rw (a, gone) rest
+pub map_map_like : {X Y : Type 0} (f f' : X → Y) (g : Y → Y) (xs : List X) → ((x : X) → IsIn x xs → g (f x) ≡ f' x) → map g (map f xs) ≡ map f' xs
+map_map_like f f' g [] same = refl
+map_map_like f f' g (x ∷ xs) same =
+    let here : g (f x) ≡ f' x = same x (inl refl) in
+    rw (here, map_map_like f f' g xs (λ y k. same y (inr k))) refl
 
 -- no entry delivers or loses what was not sent
 
@@ -113,17 +89,6 @@ sent_few script accepted (e ∷ older) history =
       length-append (sent older) (numbered (suc (length older)) 1 e.outputs),
       length-numbered (suc (length older)) 1 e.outputs,
     )
-
--- who lives after an entry
-
-or_not : (a b : Bool) → not (a || b) ≡ (not a && not b)
-or_not true b = refl
-or_not false b = refl
-
-live_more : (older : List Entry) (e : Entry) (a : ActorName) → is_live (e ∷ older) a ≡ (not (crashes e.actor e.event a) && is_live older a)
-live_more older e (Process s) = or_not (crashes e.actor e.event (Process s)) (has_crashed older s)
-live_more older e (Executor s) = or_not (crashes e.actor e.event (Executor s)) (has_crashed older s)
-live_more older e (Session s) = refl
 
 -- what an event leaves of an output, by its fate
 
@@ -183,55 +148,6 @@ module _ (script : Script) (older : List Entry) (e : Entry) where
       ap (λ (k : ℕ). left_by (fate_of script (e ∷ older) p) k (was_lost (e ∷ older) p.entry p.place)) none
       ∙ ap (λ (b : Bool). left_by (fate_of script (e ∷ older) p) 0 b) kept
 
-  abbrev pub may_have : List Entry → Parcel → Bool
-  may_have entries p = is_live entries p.message.to && nat_lt 0 (deliveries_left script entries p)
-
   -- those sent before
-  pub olds_more : retain_mut (λ o. waits e.actor e.event (passed e.event o)) (passed e.event) (map (output_of script older) (outputs_left script older))
-      ≡ map (output_of script (e ∷ older)) (filter (may_have (e ∷ older)) (sent older))
-  unfolding outputs_left
-  olds_more = retained (output_of script older) (output_of script (e ∷ older)) (passed e.event) (waits e.actor e.event)
-      (may_have older) (may_have (e ∷ older)) (sent older) passed_is still
-    where
-      by : (c l left left' : Bool) → (left' ≡ true → left ≡ true) → ((not c && l) && left') ≡ ((l && left) && (left' && not c))
-      by true true true true h = refl
-      by true true true false h = refl
-      by true true false true h = refl
-      by true true false false h = refl
-      by true false left left' h = refl
-      by false true true true h = refl
-      by false true true false h = refl
-      by false true false true h = sym (h refl)
-      by false true false false h = refl
-      by false false left left' h = refl
-
-      still : (p : Parcel) → IsIn p (sent older) → may_have (e ∷ older) p ≡ (may_have older p && waits e.actor e.event (output_of script (e ∷ older) p))
-      still p h =
-          ap (λ (b : Bool). b && nat_lt 0 (deliveries_left script (e ∷ older) p)) (live_more older e p.message.to)
-          ∙ by (crashes e.actor e.event p.message.to) (is_live older p.message.to) (nat_lt 0 (deliveries_left script older p)) (nat_lt 0 (deliveries_left script (e ∷ older) p))
-          (λ some. lt-ltb 0 (deliveries_left script older p)
-          (omega (arith, deliveries_fall script older e p h, ltb-true 0 (deliveries_left script (e ∷ older) p) some)))
-
-  -- and those that the entry sends
-  pub news_more : IsAccepted script → IsFreeHistory script (e ∷ older)
-      → filter (may_have (e ∷ older)) (numbered (suc (length older)) 1 e.outputs) ≡ filter (λ p. is_live (e ∷ older) p.message.to) (numbered (suc (length older)) 1 e.outputs)
-  unfolding fate_of
-  news_more accepted history = filter_like (λ p. is_live (e ∷ older) p.message.to) (may_have (e ∷ older)) (numbered (suc (length older)) 1 e.outputs) all
-    where
-      some : (p : Parcel) → p.entry ≡ suc (length older) → 1 ≤ deliveries_left script (e ∷ older) p
-      some p same =
-          let first = left_at_first history p same in
-          let least = some_left script accepted p.message.from p.message.to (ordinal_of (e ∷ older) p) in
-          omega (arith, first, least)
-
-      all : (p : Parcel) → IsIn p (numbered (suc (length older)) 1 e.outputs) → may_have (e ∷ older) p ≡ is_live (e ∷ older) p.message.to
-      all p h =
-          let same : p.entry ≡ suc (length older) = (numbered_parts (suc (length older)) 1 e.outputs p h).0 in
-          ap (λ (b : Bool). is_live (e ∷ older) p.message.to && b) (lt-ltb 0 (deliveries_left script (e ∷ older) p) (omega (arith, some p same)))
-          ∙ and_true (is_live (e ∷ older) p.message.to)
-
-  -- both together
-  pub outputs_more : outputs_left script (e ∷ older)
-      ≡ filter (may_have (e ∷ older)) (sent older) ++ filter (may_have (e ∷ older)) (numbered (suc (length older)) 1 e.outputs)
-  unfolding outputs_left
-  outputs_more = filter-append (may_have (e ∷ older)) (sent older) (numbered (suc (length older)) 1 e.outputs)
+  pub olds_are : map (passed e.event) (map (output_of script older) (sent older)) ≡ map (output_of script (e ∷ older)) (sent older)
+  olds_are = map_map_like (output_of script older) (output_of script (e ∷ older)) (passed e.event) (sent older) passed_is

@@ -1,8 +1,7 @@
 -- Small facts about lists and options.
-use Rattle.std.proofs.Common.{◌≡◌, ℕ, zero, suc, ◌+◌, ◌-◌, ◌≤◌, inl, inr, Bool, true, false, cond, List, [], ◌∷◌, drop, length, map, Option, Some, None, refl, sym, ap, subst, ◌∙◌, arith}
+use Rattle.std.proofs.Common.{◌≡◌, ℕ, zero, suc, ◌+◌, ◌-◌, ◌≤◌, inl, inr, Bool, true, false, cond, List, [], ◌∷◌, drop, length, map, Option, Some, None, refl, sym, ap, ◌∙◌, arith}
 use Rattle.std.proofs.lemmas.Bool.{cases_Bool, ltb-false}
-use Rattle.std.specs.List.{insert, position, position_or_len, retain_mut, zip}
-use Rattle.std.specs.List.Retain.{RetainsInTurn}
+use Rattle.std.specs.List.{insert, position, position_or_len, zip}
 use Rattle.std.specs.Prelude.{◌&&◌, filter_map, nat_le, slice_get}
 use Rattle.tp_netbook.specs.Netbook.{planned_of}
 use Rattle.tp_netbook.specs.declared.line.Line.{Line}
@@ -134,13 +133,3 @@ lines_passed s plan i line at asks = ap (λ (l : List PlanLine). by_time (filter
   where
     first : by_time (filter_map (asked_of s) (line ∷ drop (suc i) plan)) ≡ lines_from s plan (suc i)
     first = rw asks refl
-
--- what is kept where each call changes an element by one rule and answers by another
-pub retained_by : {S X : Type 0} (R : S → X → Bool → S → X → Type 0) (test : X → Bool) (change : X → X) (s : S)
-    → ((x : X) (b : Bool) (t : S) (y : X) → R s x b t y → (b ≡ test x) × (y ≡ change x) × (t ≡ s))
-    → (xs ys : List X) → RetainsInTurn R s xs ys → ys ≡ retain_mut test change xs
-retained_by R test change s each [] ys h = h
-retained_by R test change s each (x ∷ xs) ys h =
-    let said = each x h.0 h.1 h.2 h.3 in
-    let rest = retained_by R test change s each xs h.4 (subst (λ t. RetainsInTurn R t xs h.4) said.2 h.5) in
-    h.6 ∙ (λ i. cond (said.0 i) (said.1 i ∷ rest i) (rest i))

@@ -1,36 +1,34 @@
 -- What a netbook says may come next is what may come next.
-use Rattle.std.proofs.Common.{◌≡◌, ℕ, zero, suc, ◌+◌, ◌-◌, ◌<◌, ◌≤◌, ◌^◌, inl, inr, Bool, true, false, cond, List, [], ◌∷◌, ◌++◌, length, map, Option, Some, None, refl, sym, ap, subst, ◌∙◌, arith}
-use Rattle.std.proofs.lemmas.Bool.{and_parts, cases_Bool}
-use Rattle.std.proofs.lemmas.List.{length-append, length-reverse, map-append}
+use Rattle.std.proofs.Common.{◌≡◌, ℕ, zero, suc, ◌+◌, ◌-◌, ◌<◌, ◌≤◌, ◌^◌, inl, inr, Bool, true, cond, List, [], ◌∷◌, ◌++◌, length, map, Option, Some, None, refl, sym, ap, subst, ◌∙◌, arith}
+use Rattle.std.proofs.lemmas.List.{length-append, length-map, length-reverse, map-append}
 use Rattle.std.proofs.lemmas.Option.{slice_get_within}
 use Rattle.std.proofs.lemmas.Slice.Zip.{length-zip}
-use Rattle.std.specs.List.{retain_mut}
 use Rattle.std.specs.List.{zip}
-use Rattle.std.specs.Prelude.{min, nat_lt, is_none, ◌&&◌, filter, filter_map, reverse, slice_get}
+use Rattle.std.specs.Prelude.{min, nat_lt, ◌&&◌, filter_map, reverse, slice_get}
 use Rattle.tp_base.proofs.Each.{each_in}
 use Rattle.tp_base.proofs.Ends.{reverse_push, slice_get_left, slice_get_right}
-use Rattle.tp_base.proofs.Members.{get_in, in_right}
+use Rattle.tp_base.proofs.Members.{get_in}
 use Rattle.tp_base.specs.Lists.{IsIn}
 use Rattle.tp_base.specs.declared.names.ActorName.{ActorName}
-use Rattle.tp_netbook.proofs.Outputs.{may_have, news_more, olds_more, outputs_more, sent_few}
+use Rattle.tp_netbook.proofs.Outputs.{olds_are, sent_few}
 use Rattle.tp_netbook.proofs.NewOutputs.{new_are}
 use Rattle.tp_netbook.proofs.Places.{few_actors, few_sites, place_get}
-use Rattle.tp_netbook.proofs.Parts.{and_true}
+use Rattle.tp_netbook.proofs.Starts.{placed}
+use Rattle.tp_netbook.proofs.Turned.{listed_settled, turned_marks}
 use Rattle.tp_netbook.proofs.Watches.{alive_is, lines_are, undue_is, watches_more}
 use Rattle.tp_netbook.specs.Netbook as book
 use Rattle.tp_netbook.specs.Fates.{AreFates}
-use Rattle.tp_netbook.specs.Netbook.{Adds, AreCounted, AreNext, AreWatches, IsNetbook, KeepsRest, deliveries, delivery_item, is_alive, is_free, is_undue, line_item, lines, new_outputs, outputs_left, own_items}
-use Rattle.tp_netbook.specs.Outputs.{loses, output_of, passed, waits}
+use Rattle.tp_netbook.specs.Netbook.{Adds, AreCounted, AreListed, AreNext, ArePlaced, AreReady, AreReadyBut, AreWatches, IsNetbook, KeepsMarks, KeepsRest, Turns, deliveries, delivery_item, is_alive, is_free, is_undue, line_item, lines, new_outputs, own_items}
+use Rattle.tp_netbook.specs.Outputs.{loses, output_of, passed, starts_of}
 use Rattle.tp_netbook.specs.Routes.{AreCounts}
 use Rattle.tp_netbook.specs.declared.netbook.Netbook.{Netbook}
 use Rattle.tp_netbook.specs.declared.output.Output.{Output}
 use Rattle.tp_rules.proofs.Histories.{free_history}
 use Rattle.tp_rules.proofs.InRange.{sent_known}
 use Rattle.tp_rules.proofs.Parcels.{sent_within}
-use Rattle.tp_rules.proofs.Tallies.{filter_no, filter_yes}
 use Rattle.tp_rules.specs.Journal.{acts, identity_in, is_known, is_live, numbered, sent}
 use Rattle.tp_rules.specs.Pending.{actors_of, due_item, event_by, inner_item, is_waiting, item, own_item, parcel_item, pending, sites_of}
-use Rattle.tp_rules.specs.Plan.{Fate, Lost, Times, deliveries_left, due_of, fate_of}
+use Rattle.tp_rules.specs.Plan.{Fate, Lost, Times, deliveries_left, fate_of}
 use Rattle.tp_rules.specs.Rules.{enabled}
 use Rattle.tp_rules.specs.Runs.{IsFreeHistory, IsHistory, IsRun}
 use Rattle.tp_rules.specs.declared.event.Entry.{Entry}
@@ -50,23 +48,11 @@ kept_fewer {X} {Y} f (x ∷ xs) = by (f x) refl (kept_fewer f xs)
     by None e rest = rw e (omega arith)
     by (Some y) e rest = rw e (omega arith)
 
--- what is kept of the images of those that pass a test, where nothing would be kept of the others
-kept_of : {X Y Z : Type 0} (f : Y → Option Z) (make : X → Y) (test : X → Bool) (g : X → Option Z) (xs : List X)
-    → ((x : X) → IsIn x xs → test x ≡ true → f (make x) ≡ g x) → ((x : X) → IsIn x xs → test x ≡ false → g x ≡ None)
-    → filter_map f (map make (filter test xs)) ≡ filter_map g xs
-kept_of f make test g [] same gone = refl
-kept_of {X} {Y} {Z} f make test g (x ∷ xs) same gone =
-    let rest : filter_map f (map make (filter test xs)) ≡ filter_map g xs = kept_of f make test g xs (λ y k. same y (inr k)) (λ y k. gone y (inr k)) in
-    elim (cases_Bool (test x)) [
-      | inl t ↦ let here : f (make x) ≡ g x = same x (inl refl) t in ap (λ (l : List X). filter_map f (map make l)) (filter_yes test x xs t) ∙ both here rest
-      | inr u ↦ let none : g x ≡ None = gone x (inl refl) u in ap (λ (l : List X). filter_map f (map make l)) (filter_no test x xs u) ∙ rest ∙ sym (out none)
-    ]
-  where
-    both : f (make x) ≡ g x → filter_map f (map make (filter test xs)) ≡ filter_map g xs → filter_map f (make x ∷ map make (filter test xs)) ≡ filter_map g (x ∷ xs)
-    both here rest = rw (here, rest) refl
-
-    out : g x ≡ None → filter_map g (x ∷ xs) ≡ filter_map g xs
-    out none = rw none refl
+kept_of : {X Y Z : Type 0} (f : Y → Option Z) (make : X → Y) (g : X → Option Z) (xs : List X) → ((x : X) → IsIn x xs → f (make x) ≡ g x) → filter_map f (map make xs) ≡ filter_map g xs
+kept_of f make g [] same = refl
+kept_of f make g (x ∷ xs) same =
+    let here : f (make x) ≡ g x = same x (inl refl) in
+    rw (here, kept_of f make g xs (λ y k. same y (inr k))) refl
 
 kept_beside : {X Y Z : Type 0} (f : X × Y → Option Z) (g : X → Option Z) (h : X → Y) (xs : List X) → ((x : X) → IsIn x xs → f (x, h x) ≡ g x)
     → filter_map f (zip xs (map h xs)) ≡ filter_map g xs
@@ -104,40 +90,22 @@ module _ (script : Script) (journal : List Entry) (b : Netbook) (is : IsNetbook 
 
   -- deliveries
 
-  abbrev left : Parcel → Bool
-  left p = nat_lt 0 (deliveries_left script (reverse journal) p)
-
   event_is : (fate : Fate) (p : Parcel) → cond (loses fate) (Dropped p.entry p.place) (Deliver p.entry p.place) ≡ event_by fate p
   event_is Lost p = refl
   event_is (Times n) p = refl
 
-  -- one that is left is pending where its addressee is free, and one that isn't left isn't
-  stays_item : (p : Parcel) → IsIn p (sent (reverse journal)) → (is_live (reverse journal) p.message.to && left p) ≡ true
-      → delivery_item b (output_of script (reverse journal) p) ≡ parcel_item script (reverse journal) p
-  stays_item p h both =
-      let parts = and_parts (is_live (reverse journal) p.message.to) (left p) both in
+  -- each output is pending where its addressee is free and some are left
+  item_is : (p : Parcel) → IsIn p (sent (reverse journal)) → delivery_item b (output_of script (reverse journal) p) ≡ parcel_item script (reverse journal) p
+  item_is p h =
       let fate = fate_of script (reverse journal) p in
-      ap (λ (c : Bool). cond c (Some (item p.message.to (cond (loses fate) (Dropped p.entry p.place) (Deliver p.entry p.place)))) None)
-      (free p.message.to (to_known p h) ∙ sym (and_true (is_waiting script (reverse journal) p.message.to))
-      ∙ ap (λ (c : Bool). is_waiting script (reverse journal) p.message.to && c) (sym parts.1))
-      ∙ ap (λ (event : Event). cond (is_waiting script (reverse journal) p.message.to && left p) (Some (item p.message.to event)) None) (event_is fate p)
-
-  gone_item : (p : Parcel) → (is_live (reverse journal) p.message.to && left p) ≡ false → parcel_item script (reverse journal) p ≡ None
-  gone_item p neither =
-      ap (λ (c : Bool). cond c (Some (item p.message.to (event_by (fate_of script (reverse journal) p) p))) None)
-      (out (is_live (reverse journal) p.message.to) (is_none (due_of script (reverse journal) p.message.to)) (left p) neither)
-    where
-      out : (a c d : Bool) → (a && d) ≡ false → ((a && c) && d) ≡ false
-      out true true true e = e
-      out true true false e = refl
-      out true false d e = refl
-      out false c d e = refl
+      let left : Bool = nat_lt 0 (deliveries_left script (reverse journal) p) in
+      ap (λ (c : Bool). cond (c && left) (Some (item p.message.to (cond (loses fate) (Dropped p.entry p.place) (Deliver p.entry p.place)))) None) (free p.message.to (to_known p h))
+      ∙ ap (λ (event : Event). cond (is_waiting script (reverse journal) p.message.to && left) (Some (item p.message.to event)) None) (event_is fate p)
 
   deliveries_all : deliveries b ≡ filter_map (parcel_item script (reverse journal)) (sent (reverse journal))
-  unfolding outputs_left
   deliveries_all =
-      ap (filter_map (delivery_item b)) is.waiting
-      ∙ kept_of (delivery_item b) (output_of script (reverse journal)) (λ p. is_live (reverse journal) p.message.to && left p) (parcel_item script (reverse journal)) (sent (reverse journal)) stays_item (λ p h. gone_item p)
+      ap (filter_map (delivery_item b)) is.outputs
+      ∙ kept_of (delivery_item b) (output_of script (reverse journal)) (parcel_item script (reverse journal)) (sent (reverse journal)) item_is
 
   -- own steps
 
@@ -168,9 +136,9 @@ module _ (script : Script) (journal : List Entry) (b : Netbook) (is : IsNetbook 
         omega (arith, total, length-append (lines b ++ deliveries b) (own_items b next), length-append (lines b) (deliveries b))
 
     -- with sums that stop at the greatest number
-    pub all_counted : (x y z xy xyz : ℕ) → x ≡ length (lines b) → y ≡ length (deliveries b) → z ≡ length (own_items b next) → y < 2 ^ 63
-        → xy ≡ min (x + y) (2 ^ 64 - 1) → xyz ≡ min (xy + z) (2 ^ 64 - 1) → xyz ≡ length (pending script (reverse journal))
-    all_counted x y z xy xyz a c d small first second =
+    pub all_counted : (x y z xz all : ℕ) → x ≡ length (lines b) → y ≡ length (deliveries b) → z ≡ length (own_items b next) → y < 2 ^ 63
+        → xz ≡ min (x + z) (2 ^ 64 - 1) → all ≡ min (y + xz) (2 ^ 64 - 1) → all ≡ length (pending script (reverse journal))
+    all_counted x y z xz all a c d small first second =
         let few_lines : length (lines b) ≤ length b.sites.items = kept_fewer line_item b.sites.items in
         let few_own : length (own_items b next) ≤ length (zip b.roster.items next) = kept_fewer (book.own_item b) (zip b.roster.items next) in
         let few_zip : length (zip b.roster.items next) ≤ length b.roster.items = omega (arith, length-zip b.roster.items next) in
@@ -209,12 +177,12 @@ module _ (script : Script) (journal : List Entry) (e : Entry) (b : Netbook) (is 
   abbrev older : List Entry
   older = reverse journal
 
-  turned : reverse (journal ++ e ∷ []) ≡ e ∷ older
-  turned = reverse_push journal e
+  turned_is : reverse (journal ++ e ∷ []) ≡ e ∷ older
+  turned_is = reverse_push journal e
 
   whole : IsHistory script (e ∷ older)
   unfolding IsRun
-  whole = subst (IsHistory script) turned run
+  whole = subst (IsHistory script) turned_is run
 
   now : IsFreeHistory script (e ∷ older)
   now = free_history script (e ∷ older) whole
@@ -222,19 +190,28 @@ module _ (script : Script) (journal : List Entry) (e : Entry) (b : Netbook) (is 
   as_long : length older ≡ length journal
   as_long = length-reverse journal
 
-  -- after the event has passed by the outputs (b1), the entry is counted (b2) and its outputs are added (b3)
-  module _ (b1 b2 b3 : Netbook)
-      (waiting1 : b1.waiting.items ≡ retain_mut (λ o. waits e.actor e.event (passed e.event o)) (passed e.event) b.waiting.items)
-      (rest1 : KeepsRest b b1) (routes1 : b1.routes ≡ b.routes)
-      (counted : AreCounted e.actor e.event b1 b1.sites.items b2.sites.items)
-      (topology2 : b2.topology ≡ b1.topology) (waiting2 : b2.waiting ≡ b1.waiting) (roster2 : b2.roster ≡ b1.roster) (fates2 : b2.fates ≡ b1.fates)
-      (routes2 : b2.routes ≡ b1.routes) (entries2 : b2.entries ≡ suc (length journal))
-      (adds : Adds (numbered b2.entries 1 e.outputs) b2 b3) (rest3 : KeepsRest b2 b3) where
-    abbrev news : List Parcel
-    news = numbered (suc (length older)) 1 e.outputs
+  abbrev news : List Parcel
+  news = numbered (suc (length older)) 1 e.outputs
 
-    topology_now : b2.topology ≡ script.topology
-    topology_now = topology2 ∙ rest1.topology ∙ is.topology
+  pub are_placed : ArePlaced b
+  are_placed = placed script older b is.outputs is.starts
+
+  inboxes_many : length b.inboxes.items ≡ length b.sites.items
+  inboxes_many = is.inboxes ∙ sym is.sites.many
+
+  -- the event settles an output (b1), the entry is counted (b2), outputs are marked anew (b3), the entry begins (b4) and its outputs are added (b5)
+  module _ (b1 b2 b3 b4 b5 : Netbook) (turned : Option ℕ)
+      (outputs1 : b1.outputs.items ≡ map (passed e.event) b.outputs.items) (ready1 : AreReady b1) (rest1 : KeepsRest b b1) (routes1 : b1.routes ≡ b.routes) (inboxes1 : b1.inboxes ≡ b.inboxes)
+      (counted : AreCounted e.actor e.event b1 b1.sites.items b2.sites.items) (turns : Turns turned b1 b2)
+      (topology2 : b2.topology ≡ b1.topology) (outputs2 : b2.outputs ≡ b1.outputs) (starts2 : b2.starts ≡ b1.starts) (inboxes2 : b2.inboxes ≡ b1.inboxes) (marks2 : b2.ready ≡ b1.ready)
+      (roster2 : b2.roster ≡ b1.roster) (fates2 : b2.fates ≡ b1.fates) (routes2 : b2.routes ≡ b1.routes)
+      (ready3 : AreReadyBut b2 turned → AreReady b3) (rest3 : KeepsRest b2 b3) (outputs3 : b3.outputs ≡ b2.outputs) (routes3 : b3.routes ≡ b2.routes) (inboxes3 : b3.inboxes ≡ b2.inboxes)
+      (topology4 : b4.topology ≡ b3.topology) (sites4 : b4.sites ≡ b3.sites) (roster4 : b4.roster ≡ b3.roster) (fates4 : b4.fates ≡ b3.fates) (routes4 : b4.routes ≡ b3.routes)
+      (outputs4 : b4.outputs ≡ b3.outputs) (inboxes4 : b4.inboxes ≡ b3.inboxes) (starts4 : b4.starts.items ≡ b3.starts.items ++ length b3.outputs.items ∷ []) (entries4 : b4.entries ≡ suc (length journal))
+      (ready4 : AreReady b3 → AreReady b4)
+      (adds : Adds (numbered b4.entries 1 e.outputs) b4 b5) (marks5 : KeepsMarks b4 b5) (rest5 : KeepsRest b4 b5) where
+    topology_now : b4.topology ≡ script.topology
+    topology_now = topology4 ∙ rest3.topology ∙ topology2 ∙ rest1.topology ∙ is.topology
 
     sites_then : AreWatches script older b1.sites.items
     sites_then = subst (λ sites. AreWatches script older sites.items) (sym rest1.sites) is.sites
@@ -242,54 +219,64 @@ module _ (script : Script) (journal : List Entry) (e : Entry) (b : Netbook) (is 
     sites_now : AreWatches script (e ∷ older) b2.sites.items
     sites_now = watches_more script older e b1 b2.sites.items (rest1.topology ∙ is.topology) sites_then now.1.known (omega (arith, as_long, short)) counted
 
-    fates_now : AreFates script.plan b2.fates
-    fates_now = subst (AreFates script.plan) (sym (fates2 ∙ rest1.fates)) is.fates
+    fates_now : AreFates script.plan b4.fates
+    fates_now = subst (AreFates script.plan) (sym (fates4 ∙ rest3.fates ∙ fates2 ∙ rest1.fates)) is.fates
 
-    routes_now : AreCounts (sent older) b2.routes
-    routes_now = subst (AreCounts (sent older)) (sym (routes2 ∙ routes1)) is.routes
-
-    new_known : (p : Parcel) → IsIn p news → is_known script p.message.to ≡ true
-    new_known p h =
-        each_in (λ (q : Parcel). is_known script q.message.to ≡ true) (sent (e ∷ older)) p (sent_known script accepted (e ∷ older) now)
-        (in_right (sent older) news p h)
+    routes_now : AreCounts (sent older) b4.routes
+    routes_now = subst (AreCounts (sent older)) (sym (routes4 ∙ routes3 ∙ routes2 ∙ routes1)) is.routes
 
     few : length (sent older) + length news < 2 ^ 128
     few =
         let all : length (sent (e ∷ older)) ≡ length (sent older) + length news = length-append (sent older) news in
         omega (arith, all, sent_few script accepted (e ∷ older) now, as_long, short)
 
-    numbers : numbered b2.entries 1 e.outputs ≡ news
-    numbers = ap (λ (n : ℕ). numbered n 1 e.outputs) (entries2 ∙ ap (λ (n : ℕ). suc n) (sym as_long))
+    numbers : numbered b4.entries 1 e.outputs ≡ news
+    numbers = ap (λ (n : ℕ). numbered n 1 e.outputs) (entries4 ∙ ap (λ (n : ℕ). suc n) (sym as_long))
 
-    added_now : (b3.waiting.items ≡ b2.waiting.items ++ new_outputs script.plan (is_alive b2) (sent older) news) × AreCounts (sent older ++ news) b3.routes
-    added_now = subst (λ (ps : List Parcel). Adds ps b2 b3) numbers adds script.plan (sent older) fates_now routes_now few
+    added_now : (b5.outputs.items ≡ b4.outputs.items ++ new_outputs script.plan (sent older) news) × AreCounts (sent older ++ news) b5.routes
+    added_now = subst (λ (ps : List Parcel). Adds ps b4 b5) numbers adds script.plan (sent older) fates_now routes_now few
 
-    olds : b2.waiting.items ≡ map (output_of script (e ∷ older)) (filter (may_have script older e (e ∷ older)) (sent older))
-    olds =
-        ap (λ waiting. waiting.items) waiting2 ∙ waiting1
-        ∙ ap (λ (l : List Output). retain_mut (λ o. waits e.actor e.event (passed e.event o)) (passed e.event) l) is.waiting
-        ∙ olds_more script older e
+    passed_now : b4.outputs.items ≡ map (passed e.event) b.outputs.items
+    passed_now = ap (λ outputs. outputs.items) (outputs4 ∙ outputs3 ∙ outputs2) ∙ outputs1
 
-    news_are : new_outputs script.plan (is_alive b2) (sent older) news ≡ map (output_of script (e ∷ older)) (filter (may_have script older e (e ∷ older)) news)
-    news_are =
-        new_are script older e now (is_alive b2) (sent older) 1 e.outputs refl
-        (λ q h. inl (let within = sent_within older q h in omega (arith, within.1)))
-        (λ p h. alive_is script (e ∷ older) b2 topology_now sites_now p.message.to (new_known p h))
-        ∙ ap (map (output_of script (e ∷ older))) (sym (news_more script older e accepted now))
+    olds : b4.outputs.items ≡ map (output_of script (e ∷ older)) (sent older)
+    olds = passed_now ∙ ap (map (passed e.event)) is.outputs ∙ olds_are script older e
 
-    pub netbook_more : IsNetbook script (journal ++ e ∷ []) b3
+    news_are : new_outputs script.plan (sent older) news ≡ map (output_of script (e ∷ older)) news
+    news_are = new_are script older e now (sent older) 1 e.outputs refl (λ q h. inl (let within = sent_within older q h in omega (arith, within.1)))
+
+    starts_now : b4.starts.items ≡ starts_of (e ∷ older)
+    starts_now =
+        let many : length b3.outputs.items ≡ length (sent older) =
+        ap (λ outputs. length outputs.items) (sym outputs4) ∙ ap length olds ∙ length-map (sent older) (output_of script (e ∷ older)) in
+        starts4 ∙ ap (λ starts. starts.items ++ length b3.outputs.items ∷ []) (rest3.starts ∙ starts2 ∙ rest1.starts)
+        ∙ ap (λ (l : List ℕ). l ++ length b3.outputs.items ∷ []) is.starts ∙ ap (λ (n : ℕ). starts_of older ++ n ∷ []) many
+
+    ready_now : AreReady b5
+    ready_now =
+        let same : length b1.inboxes.items ≡ length b1.sites.items =
+        ap (λ l. length l.items) inboxes1 ∙ inboxes_many ∙ ap (λ l. length l.items) (sym rest1.sites) in
+        marks5.ready (ready4 (ready3 (turned_marks b1 b2 turned turns outputs2 inboxes2 marks2 same (listed_settled b b1 e.event outputs1 rest1.topology inboxes1 is.listed) ready1)))
+
+    listed_now : AreListed b5
+    listed_now = marks5.listed (listed_settled b b4 e.event passed_now (topology4 ∙ rest3.topology ∙ topology2 ∙ rest1.topology) (inboxes4 ∙ inboxes3 ∙ inboxes2 ∙ inboxes1) is.listed)
+
+    pub netbook_more : IsNetbook script (journal ++ e ∷ []) b5
     netbook_more = record {
-      topology = rest3.topology ∙ topology_now;
-      sites = subst (λ l. AreWatches script l b3.sites.items) (sym turned) (subst (λ sites. AreWatches script (e ∷ older) sites.items) (sym rest3.sites) sites_now);
-      roster = ap (λ roster. roster.items) (rest3.roster ∙ roster2 ∙ rest1.roster) ∙ is.roster;
-      fates = subst (AreFates script.plan) (sym rest3.fates) fates_now;
-      routes = subst (λ (l : List Entry). AreCounts (sent l) b3.routes) (sym turned) added_now.1;
-      waiting = added_now.0 ∙ ap (λ (l : List Output). l ++ new_outputs script.plan (is_alive b2) (sent older) news) olds
-          ∙ ap (λ (l : List Output). map (output_of script (e ∷ older)) (filter (may_have script older e (e ∷ older)) (sent older)) ++ l) news_are
-          ∙ sym (map-append (output_of script (e ∷ older)) (filter (may_have script older e (e ∷ older)) (sent older)) (filter (may_have script older e (e ∷ older)) news))
-          ∙ ap (map (output_of script (e ∷ older))) (sym (outputs_more script older e))
-          ∙ ap (λ (l : List Entry). map (output_of script l) (outputs_left script l)) (sym turned);
-      entries = rest3.entries ∙ entries2 ∙ more;
+      topology = rest5.topology ∙ topology_now;
+      sites = subst (λ l. AreWatches script l b5.sites.items) (sym turned_is) (subst (λ sites. AreWatches script (e ∷ older) sites.items) (sym (rest5.sites ∙ sites4 ∙ rest3.sites)) sites_now);
+      roster = ap (λ roster. roster.items) (rest5.roster ∙ roster4 ∙ rest3.roster ∙ roster2 ∙ rest1.roster) ∙ is.roster;
+      fates = subst (AreFates script.plan) (sym rest5.fates) fates_now;
+      routes = subst (λ (l : List Entry). AreCounts (sent l) b5.routes) (sym turned_is) added_now.1;
+      outputs = added_now.0 ∙ ap (λ (l : List Output). l ++ new_outputs script.plan (sent older) news) olds
+          ∙ ap (λ (l : List Output). map (output_of script (e ∷ older)) (sent older) ++ l) news_are
+          ∙ sym (map-append (output_of script (e ∷ older)) (sent older) news)
+          ∙ ap (λ (l : List Entry). map (output_of script l) (sent l)) (sym turned_is);
+      starts = ap (λ starts. starts.items) rest5.starts ∙ starts_now ∙ ap starts_of (sym turned_is);
+      inboxes = marks5.inboxes ∙ ap (λ l. length l.items) (inboxes4 ∙ inboxes3 ∙ inboxes2 ∙ inboxes1) ∙ is.inboxes;
+      listed = listed_now;
+      ready = ready_now;
+      entries = rest5.entries ∙ entries4 ∙ more;
     }
       where
         more : suc (length journal) ≡ length (journal ++ e ∷ [])

@@ -1,20 +1,23 @@
 -- What a netbook keeps of a journal, and which steps it says may come next.
-use Rattle.std.specs.Prelude.{ℕ, ◌≡◌, ◌≢◌, ◌+◌, ◌^◌, ◌<◌, ◌&&◌, not, nat_le, nat_lt, is_none, Bool, true, false, cond, List, [], ◌∷◌, ◌++◌, Option, Some, None, filter, filter_map, length, map, reverse, slice_get}
+use Rattle.std.specs.Prelude.{ℕ, ◌≡◌, ◌≢◌, ◌⊎◌, ◌+◌, ◌^◌, ◌<◌, ◌&&◌, ◌||◌, not, nat_le, nat_lt, is_none, Bool, true, false, cond, List, [], ◌∷◌, ◌++◌, Option, Some, None, filter, filter_map, length, map, reverse, set, slice_get}
 use Rattle.std.specs.List.{zip}
 use Rattle.tp_base.specs.declared.names.ActorName.{ActorName}
 use Rattle.tp_base.specs.declared.names.ActorName.TheVariants.{Process, Executor, Session}
 use Rattle.tp_base.specs.declared.names.Site.{Site}
+use Rattle.tp_base.specs.Lists.{IsIn}
+use Rattle.tp_bits.specs.Bits.{AreBits}
 use Rattle.tp_netbook.specs.Fates.{AreFates}
-use Rattle.tp_netbook.specs.Outputs.{event_of, new_output, output_of}
+use Rattle.tp_netbook.specs.Outputs.{StandsAfter, event_of, new_output, output_of, starts_of}
 use Rattle.tp_netbook.specs.Places.{place_of_site}
 use Rattle.tp_netbook.specs.Routes.{AreCounts, route_of, same_route}
 use Rattle.tp_netbook.specs.declared.line.Line.{Line}
 use Rattle.tp_netbook.specs.declared.netbook.Netbook.{Netbook}
+use Rattle.tp_netbook.specs.declared.output.Inbox.{Inbox}
 use Rattle.tp_netbook.specs.declared.output.Output.{Output}
 use Rattle.tp_netbook.specs.declared.watch.Watch.{Watch}
 use Rattle.tp_rules.specs.Journal.{acts, identity_in, is_crash, is_live, sent}
 use Rattle.tp_rules.specs.Pending.{actors_of, inner_item, item, sites_of}
-use Rattle.tp_rules.specs.Plan.{Planned, deliveries_left, entries_of, fate_by, is_planned, plan_of}
+use Rattle.tp_rules.specs.Plan.{Planned, entries_of, fate_by, is_planned, plan_of}
 use Rattle.tp_rules.specs.Rules.{enabled}
 use Rattle.tp_rules.specs.declared.event.Entry.{Entry}
 use Rattle.tp_rules.specs.declared.event.Event.{Event}
@@ -23,10 +26,7 @@ use Rattle.tp_rules.specs.declared.event.Item.{Item}
 use Rattle.tp_rules.specs.declared.event.Parcel.{Parcel}
 use Rattle.tp_script.specs.declared.script.PlanLine.{PlanLine}
 use Rattle.tp_script.specs.declared.script.Script.{Script}
-
--- the outputs that may still be delivered or lost, in the order in which they were sent: to actors that live
-unfoldable pub outputs_left : Script → List Entry → List Parcel
-outputs_left script older = filter (λ p. is_live older p.message.to && nat_lt 0 (deliveries_left script older p)) (sent older)
+use Rattle.tp_topology.specs.Shape.{Shape}
 
 -- a line of a netbook as the plan has it
 abbrev pub planned_of : Line → Planned
@@ -44,16 +44,6 @@ pub record IsWatch (script : Script) (older : List Entry) (w : Watch) (s : Site)
 pub record AreWatches (script : Script) (older : List Entry) (ws : List Watch) : Type 0 where
   pub many : length ws ≡ length (sites_of script)
   pub each : (k : ℕ) (w : Watch) (s : Site) → slice_get ws k ≡ Some w → slice_get (sites_of script) k ≡ Some s → IsWatch script older w s
-
--- a netbook stands for a journal
-pub record IsNetbook (script : Script) (journal : List Entry) (book : Netbook) : Type 0 where
-  pub topology : book.topology ≡ script.topology
-  pub sites : AreWatches script (reverse journal) book.sites.items
-  pub roster : book.roster.items ≡ actors_of script
-  pub fates : AreFates script.plan book.fates
-  pub routes : AreCounts (sent (reverse journal)) book.routes
-  pub waiting : book.waiting.items ≡ map (output_of script (reverse journal)) (outputs_left script (reverse journal))
-  pub entries : book.entries ≡ length journal
 
 -- the step of its own that each actor of the script may make, in their order
 abbrev pub AreNext : Script → List Entry → List (Option Inner) → Type 0
@@ -100,17 +90,59 @@ is_free book a = is_alive book a && is_undue book a
 abbrev pub lines : Netbook → List Item
 lines book = filter_map line_item book.sites.items
 
+-- an output may be delivered or lost now
+abbrev pub is_ready : Netbook → Output → Bool
+is_ready book o = is_free book o.to && nat_lt 0 o.left
+
+abbrev pub output_item : Output → Item
+output_item o = item o.to (event_of o)
+
 abbrev pub delivery_item : Netbook → Output → Option Item
-delivery_item book o = cond (is_free book o.to) (Some (item o.to (event_of o))) None
+delivery_item book o = cond (is_ready book o) (Some (output_item o)) None
 
 abbrev pub deliveries : Netbook → List Item
-deliveries book = filter_map (delivery_item book) book.waiting.items
+deliveries book = filter_map (delivery_item book) book.outputs.items
 
 abbrev pub own_item : Netbook → ActorName × Option Inner → Option Item
 own_item book own = cond (is_free book own.0) (inner_item own.0 own.1) None
 
 abbrev pub own_items : Netbook → List (Option Inner) → List Item
 own_items book next = filter_map (own_item book) (zip book.roster.items next)
+
+-- what a netbook keeps
+
+-- it has marked the outputs that may be delivered or lost now
+abbrev pub AreReady : Netbook → Type 0
+AreReady book = AreBits (map (is_ready book) book.outputs.items) book.ready
+
+-- the place of an actor's site, if it is at one
+abbrev pub home_of : Shape → ActorName → Option ℕ
+home_of shape (Process s) = Some (place_of_site shape s)
+home_of shape (Executor s) = Some (place_of_site shape s)
+home_of shape (Session s) = None
+
+-- each output to a site is in the site's inbox, if there is one
+abbrev pub AreListed : Netbook → Type 0
+AreListed book = (i : ℕ) (o : Output) (home : ℕ) (inbox : Inbox) → slice_get book.outputs.items i ≡ Some o → home_of book.topology o.to ≡ Some home
+    → slice_get book.inboxes.items home ≡ Some inbox → IsIn i inbox.places.items
+
+-- each output is found by its entry and its place there
+abbrev pub ArePlaced : Netbook → Type 0
+ArePlaced book = (i : ℕ) (o : Output) → slice_get book.outputs.items i ≡ Some o → StandsAfter book.starts.items o.entry o.place i
+
+-- a netbook stands for a journal
+pub record IsNetbook (script : Script) (journal : List Entry) (book : Netbook) : Type 0 where
+  pub topology : book.topology ≡ script.topology
+  pub sites : AreWatches script (reverse journal) book.sites.items
+  pub roster : book.roster.items ≡ actors_of script
+  pub fates : AreFates script.plan book.fates
+  pub routes : AreCounts (sent (reverse journal)) book.routes
+  pub outputs : book.outputs.items ≡ map (output_of script (reverse journal)) (sent (reverse journal))
+  pub starts : book.starts.items ≡ starts_of (reverse journal)
+  pub inboxes : length book.inboxes.items ≡ length (sites_of script)
+  pub listed : AreListed book
+  pub ready : AreReady book
+  pub entries : book.entries ≡ length journal
 
 -- how an entry changes it
 
@@ -133,13 +165,55 @@ pub record AreCounted (actor : ActorName) (event : Event) (book : Netbook) (befo
   pub many : length after ≡ length before
   pub each : (k : ℕ) (w' : Watch) → slice_get after k ≡ Some w' → (w : Watch) × (slice_get before k ≡ Some w) × IsCountedAt actor event book k w w'
 
--- all stays but what waits and the counts of the routes
+abbrev pub differs : Bool → Bool → Bool
+differs true b = not b
+differs false b = b
+
+-- whether the site lives, or whether no line is due, has changed
+abbrev pub turned : Watch → Watch → Bool
+turned before after = differs before.live after.live || differs (is_none (line_due before)) (is_none (line_due after))
+
+-- who is free has changed at one site at most
+abbrev pub Turns : Option ℕ → Netbook → Netbook → Type 0
+Turns turned old new = (a : ActorName) → (is_free new a ≡ is_free old a)
+    ⊎ ((home : ℕ) × (turned ≡ Some home) × (home_of old.topology a ≡ Some home) × (home < length old.sites.items))
+
+-- an output is in the inbox of the site that turned
+abbrev pub IsListed : Netbook → Option ℕ → ℕ → Type 0
+IsListed book turned i = (home : ℕ) × (inbox : Inbox) × (turned ≡ Some home) × (slice_get book.inboxes.items home ≡ Some inbox) × IsIn i inbox.places.items
+
+-- it has marked the outputs that may be delivered or lost now, but for those in the inbox of the site that turned
+abbrev pub AreReadyBut : Netbook → Option ℕ → Type 0
+AreReadyBut book turned = (bits : List Bool) × AreBits bits book.ready × (length bits ≡ length book.outputs.items)
+    × ((i : ℕ) (o : Output) → slice_get book.outputs.items i ≡ Some o → (slice_get bits i ≡ Some (is_ready book o)) ⊎ IsListed book turned i)
+
+abbrev pub mark_by : Option Bool → ℕ → List Bool → List Bool
+mark_by None place bits = bits
+mark_by (Some bit) place bits = set bits place bit
+
+-- an output's place is put into an inbox, if there is one
+abbrev pub Lists : Option ℕ → ℕ → List Inbox → List Inbox → Type 0
+Lists home place old new = (length new ≡ length old) × ((k : ℕ) (inbox : Inbox) → slice_get new k ≡ Some inbox → (before : Inbox) × (slice_get old k ≡ Some before)
+    × ((i : ℕ) → (IsIn i before.places.items) ⊎ ((i ≡ place) × (home ≡ Some k)) → IsIn i inbox.places.items))
+
+-- the marks with one of them made anew
+abbrev pub marked : Netbook → ℕ → List Bool → List Bool
+marked book place bits = mark_by (slice_get (map (is_ready book) book.outputs.items) place) place bits
+
+-- all stays but the outputs, their marks, inboxes and counts
 pub record KeepsRest (old new : Netbook) : Type 0 where
   pub topology : new.topology ≡ old.topology
   pub sites : new.sites ≡ old.sites
   pub roster : new.roster ≡ old.roster
   pub fates : new.fates ≡ old.fates
+  pub starts : new.starts ≡ old.starts
   pub entries : new.entries ≡ old.entries
+
+-- the marks and the inboxes stay right
+pub record KeepsMarks (old new : Netbook) : Type 0 where
+  pub ready : AreReady old → AreReady new
+  pub listed : AreListed old → AreListed new
+  pub inboxes : length new.inboxes.items ≡ length old.inboxes.items
 
 -- the number of an output between its two actors, after those sent before
 abbrev pub next_number : List Parcel → Parcel → ℕ
@@ -149,12 +223,12 @@ next_number before p = length (filter (λ q. same_route (route_of q) (route_of p
 abbrev pub added : List PlanLine → List Parcel → Parcel → Output
 added plan before p = new_output p.entry p.place p.message.to (fate_by plan p.message.from p.message.to (next_number before p))
 
--- the outputs that wait from then on, of those that are sent after others: to actors that live
-abbrev pub new_outputs : List PlanLine → (ActorName → Bool) → List Parcel → List Parcel → List Output
-new_outputs plan alive before [] = []
-new_outputs plan alive before (p ∷ ps) = cond (alive p.message.to) (added plan before p ∷ []) [] ++ new_outputs plan alive (before ++ p ∷ []) ps
+-- the outputs that are added, of those that are sent after others
+abbrev pub new_outputs : List PlanLine → List Parcel → List Parcel → List Output
+new_outputs plan before [] = []
+new_outputs plan before (p ∷ ps) = added plan before p ∷ new_outputs plan (before ++ p ∷ []) ps
 
 -- outputs are counted and added
 abbrev pub Adds : List Parcel → Netbook → Netbook → Type 0
 Adds ps old new = (plan : List PlanLine) (before : List Parcel) → AreFates plan old.fates → AreCounts before old.routes → length before + length ps < 2 ^ 128
-    → (new.waiting.items ≡ old.waiting.items ++ new_outputs plan (is_alive old) before ps) × AreCounts (before ++ ps) new.routes
+    → (new.outputs.items ≡ old.outputs.items ++ new_outputs plan before ps) × AreCounts (before ++ ps) new.routes

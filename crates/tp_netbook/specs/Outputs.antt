@@ -1,10 +1,8 @@
--- What a netbook keeps of an output that may still be delivered or lost, and what an event does to it.
-use Rattle.std.specs.Prelude.{ℕ, ◌-◌, ◌==◌, ◌&&◌, not, nat_lt, Bool, true, false, cond, List}
-use Rattle.tp_base.specs.Names.{same_name}
+-- What a netbook keeps of an output, where it stands among all, and what an event does to it.
+use Rattle.std.specs.Prelude.{ℕ, ◌≡◌, ◌+◌, ◌-◌, ◌==◌, ◌&&◌, not, Bool, true, false, cond, List, [], ◌∷◌, ◌++◌, Some, length, slice_get}
 use Rattle.tp_base.specs.declared.names.ActorName.{ActorName}
-use Rattle.tp_base.specs.declared.names.ActorName.TheVariants.{Process, Executor, Session}
 use Rattle.tp_netbook.specs.declared.output.Output.{Output}
-use Rattle.tp_rules.specs.Journal.{is_crash}
+use Rattle.tp_rules.specs.Journal.{sent}
 use Rattle.tp_rules.specs.Plan.{Fate, Lost, Times, deliveries_left, fate_of, left_by}
 use Rattle.tp_rules.specs.declared.event.Entry.{Entry}
 use Rattle.tp_rules.specs.declared.event.Event.{Event}
@@ -43,12 +41,16 @@ is_named (OfItself inner) o = false
 abbrev pub passed : Event → Output → Output
 passed event o = record { entry = o.entry; place = o.place; to = o.to; lost = o.lost; left = cond (is_named event o) (o.left - 1) o.left }
 
--- whether by an event of one actor the site of another crashes
-abbrev pub crashes : ActorName → Event → ActorName → Bool
-crashes actor event (Process s) = same_name actor (Process s) && is_crash event
-crashes actor event (Executor s) = same_name actor (Process s) && is_crash event
-crashes actor event (Session s) = false
+-- the place among all outputs of the one that an event delivers or loses, by how many were sent before each entry
+abbrev pub StandsAfter : List ℕ → ℕ → ℕ → ℕ → Type 0
+StandsAfter starts entry place i = (start : ℕ) × (slice_get starts (entry - 1) ≡ Some start) × (i + 1 ≡ start + place)
 
--- whether an output still waits after an event
-abbrev pub waits : ActorName → Event → Output → Bool
-waits actor event o = nat_lt 0 o.left && not (crashes actor event o.to)
+abbrev pub StandsAt : List ℕ → Event → ℕ → Type 0
+StandsAt starts (Deliver entry place) i = StandsAfter starts entry place i
+StandsAt starts (Dropped entry place) i = StandsAfter starts entry place i
+StandsAt starts (OfItself inner) i = ⊥
+
+-- how many outputs were sent before each entry
+abbrev pub starts_of : List Entry → List ℕ
+starts_of [] = []
+starts_of (e ∷ older) = starts_of older ++ length (sent older) ∷ []

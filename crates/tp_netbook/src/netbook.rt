@@ -1,8 +1,8 @@
 ghost use Rattle.std.specs.Option.{option_copied};
-ghost use Rattle.std.specs.Prelude.{◌≡◌, ◌<◌, ◌+◌, ◌^◌, ◌++◌, ◌∷◌, [], List, filter, not, length, reverse, slice_get, IfOk, OnOk};
-ghost use Rattle.std.specs.List.{retain_mut};
-ghost use Rattle.tp_netbook.specs.Netbook.{Adds, AreCounted, AreNext, AreWatches, IsNetbook, KeepsRest, deliveries, delivery_item, is_alive, is_free, is_undue, lines, own_item, own_items, watch_of};
-ghost use Rattle.tp_netbook.specs.Outputs.{passed, waits};
+ghost use Rattle.std.specs.Prelude.{◌≡◌, ◌<◌, ◌+◌, ◌^◌, ◌++◌, ◌∷◌, [], Bool, List, length, map, reverse, slice_get, IfOk, OnOk};
+ghost use Rattle.tp_bits.specs.Bits.{AreBits};
+ghost use Rattle.tp_netbook.specs.Netbook.{Adds, AreCounted, AreNext, ArePlaced, AreReady, AreReadyBut, AreWatches, IsNetbook, KeepsMarks, KeepsRest, Lists, Turns, deliveries, home_of, is_alive, is_free, is_ready, is_undue, lines, marked, own_item, own_items, watch_of};
+ghost use Rattle.tp_netbook.specs.Outputs.{passed};
 ghost use Rattle.tp_rules.specs.Journal.{numbered};
 ghost use Rattle.tp_rules.specs.Pending.{pending, sites_of};
 ghost use Rattle.tp_rules.specs.Runs.{IsRun};
@@ -12,12 +12,13 @@ ghost use Rattle.tp_script.specs.declared.script.Script.{Script as ScriptValue};
 
 use crate::fate::{Fates, Passage};
 use crate::line::lines_of;
-use crate::output::Output;
+use crate::output::{Inbox, Output, place_in};
 use crate::roster::{place_of_site, roster, sites_of};
 use crate::route::{Route, Routes};
 use crate::watch::Watch;
 use std::alloc::Global;
 use tp_base::{ActorName, NoMemory, Site};
+use tp_bits::Bits;
 use tp_rules::{Entry, Event, Inner, Item, Outputs};
 use tp_script::Script;
 use tp_topology::Topology;
@@ -31,7 +32,10 @@ pub struct Netbook {
     roster: Vec<ActorName>,
     fates: Fates,
     routes: Routes,
-    waiting: Vec<Output>,
+    outputs: Vec<Output>,
+    starts: Vec<usize>,
+    inboxes: Vec<Inbox>,
+    ready: Bits,
     entries: u64,
 }
 
@@ -48,7 +52,10 @@ impl Netbook {
             sites: watches(alloc, script, sites.as_slice())?,
             fates: Fates::new(alloc, script.plan.as_slice())?,
             routes: Routes::new(alloc),
-            waiting: Vec::new(alloc),
+            outputs: Vec::new(alloc),
+            starts: Vec::new(alloc),
+            inboxes: inboxes(alloc, sites.as_slice())?,
+            ready: Bits::new(alloc),
             entries: 0,
         })
     }
@@ -57,11 +64,8 @@ impl Netbook {
     pub fn pending(&self, next: &[Option<Inner>]) -> u64
         ensures { (script : ScriptValue) (journal : List EntryValue) → IsNetbook script journal self.now → IsAccepted script → IsRun script journal → AreNext script journal next.now → result ≡ length (pending script (reverse journal)) }
     {
-        let all = self
-            .count_lines()
-            .saturating_add(self.count_deliveries())
-            .saturating_add(self.count_own(next));
-        all as u64
+        let others = self.count_lines().saturating_add(self.count_own(next));
+        self.count_deliveries().saturating_add(others as u64)
     }
 
     /// One of the steps that may come next, counted from 0.
@@ -76,7 +80,7 @@ impl Netbook {
         if let Some(delivery) = self.delivery(index) {
             return Some(delivery);
         }
-        let index = index.saturating_sub(self.count_deliveries());
+        let index = index.saturating_sub(self.count_deliveries() as usize);
         self.own(next, index)
     }
 
@@ -84,9 +88,11 @@ impl Netbook {
     pub fn entered(&mut self, entry: &Entry) -> Result<(), NoMemory>
         ensures { OnOk result ((script : ScriptValue) (journal : List EntryValue) → IsNetbook script journal self.old → IsAccepted script → IsRun script (journal ++ entry.now ∷ []) → length journal + 1 < 2 ^ 64 → IsNetbook script (journal ++ entry.now ∷ []) self.new) }
     {
-        self.settle(entry.actor, entry.event);
-        self.count(entry.actor, entry.event);
+        self.settle(entry.event);
+        let turned = self.count(entry.actor, entry.event);
+        self.refresh(turned);
         self.entries = self.entries.saturating_add(1);
+        self.starts.push(self.outputs.len())?;
         self.add(&entry.outputs)?;
         Ok(())
     }
@@ -149,42 +155,29 @@ impl Netbook {
         None
     }
 
-    fn count_deliveries(&self) -> usize
-        ensures count { result ≡ length (deliveries self.now) }
-        ensures few { result < 2 ^ 63 }
+    fn count_deliveries(&self) -> u64
+        ensures count { AreReady self.now → result ≡ length (deliveries self.now) }
+        ensures few { AreReady self.now → result < 2 ^ 63 }
     {
-        self.waiting
-            .iter()
-            .filter_map(|output| self.delivery_item(output))
-            .count()
+        self.ready.count_ones()
     }
 
     fn delivery(&self, index: usize) -> Option<Item>
-        ensures { result ≡ slice_get (deliveries self.now) index }
+        ensures { AreReady self.now → result ≡ slice_get (deliveries self.now) index }
     {
-        let mut left = index;
-        for output in &self.waiting {
-            if let Some(item) = self.delivery_item(output) {
-                if left == 0 {
-                    return Some(item);
-                }
-                left -= 1;
-            }
-        }
-        None
-    }
-
-    /// The delivery or the loss of an output whose addressee is free.
-    fn delivery_item(&self, output: &Output) -> Option<Item>
-        ensures { result ≡ delivery_item self.now output.now }
-    {
-        if !self.is_free(output.to) {
-            return None;
-        }
+        let place = self.ready.select(index as u64)?;
+        let output = self.outputs.get(place)?;
         Some(Item {
             actor: output.to,
             event: output.event(),
         })
+    }
+
+    /// Whether an output may be delivered or lost now.
+    fn is_ready(&self, output: &Output) -> bool
+        ensures { result ≡ is_ready self.now output.now }
+    {
+        self.is_free(output.to) && output.left > 0
     }
 
     fn count_own(&self, next: &[Option<Inner>]) -> usize
@@ -216,46 +209,100 @@ impl Netbook {
     fn own_item(&self, actor: ActorName, inner: Option<Inner>) -> Option<Item>
         ensures { result ≡ own_item self.now (actor, inner) }
     {
+        let inner = inner?;
         if !self.is_free(actor) {
             return None;
         }
         Some(Item {
             actor,
-            event: Event::Inner(inner?),
+            event: Event::Inner(inner),
         })
     }
 
-    /// Lets an event pass by the outputs that wait, and takes out those that it settles.
-    fn settle(&mut self, actor: ActorName, event: Event)
-        ensures waiting { self.new.waiting.items ≡ retain_mut (λ o. waits actor event (passed event o)) (passed event) self.old.waiting.items }
+    /// Takes the delivery or the loss of an output.
+    fn settle(&mut self, event: Event)
+        ensures outputs { ArePlaced self.old → self.new.outputs.items ≡ map (passed event) self.old.outputs.items }
+        ensures ready { AreReady self.old → AreReady self.new }
         ensures rest { KeepsRest self.old self.new }
         ensures routes { self.new.routes ≡ self.old.routes }
+        ensures inboxes { self.new.inboxes ≡ self.old.inboxes }
     {
-        self.waiting.retain_mut(|output| output.take(actor, event));
+        let Some(place) = place_in(&self.starts, event) else {
+            return;
+        };
+        if place < self.outputs.len() {
+            self.outputs[place].take(event);
+            self.mark(place);
+        }
     }
 
-    /// Counts an entry at the watch of its process.
-    fn count(&mut self, actor: ActorName, event: Event)
+    /// Marks whether an output may be delivered or lost now.
+    fn mark(&mut self, place: usize)
+        ensures ready { (bits : List Bool) → AreBits bits self.old.ready → AreBits (marked self.old place bits) self.new.ready }
+        ensures rest { KeepsRest self.old self.new }
+        ensures outputs { self.new.outputs ≡ self.old.outputs }
+        ensures routes { self.new.routes ≡ self.old.routes }
+        ensures inboxes { self.new.inboxes ≡ self.old.inboxes }
+    {
+        if place < self.outputs.len() {
+            let ready = self.is_ready(&self.outputs[place]);
+            self.ready.set(place, ready);
+        }
+    }
+
+    /// Marks the outputs to a site anew.
+    fn refresh(&mut self, turned: Option<usize>)
+        ensures ready { AreReadyBut self.old turned → AreReady self.new }
+        ensures rest { KeepsRest self.old self.new }
+        ensures outputs { self.new.outputs ≡ self.old.outputs }
+        ensures routes { self.new.routes ≡ self.old.routes }
+        ensures inboxes { self.new.inboxes ≡ self.old.inboxes }
+    {
+        let Some(home) = turned else {
+            return;
+        };
+        if home >= self.inboxes.len() {
+            return;
+        }
+        for k in 0..self.inboxes[home].places.len() {
+            let place = self.inboxes[home].places[k];
+            self.mark(place);
+        }
+    }
+
+    /// Counts an entry at the watch of its process, and gives the site's place where it turned: where its
+    /// process or its executor is free now and wasn't, or the other way round.
+    fn count(&mut self, actor: ActorName, event: Event) -> Option<usize>
         ensures sites { AreCounted actor event self.old self.old.sites.items self.new.sites.items }
+        ensures turned { Turns result self.old self.new }
         ensures topology { self.new.topology ≡ self.old.topology }
-        ensures waiting { self.new.waiting ≡ self.old.waiting }
+        ensures outputs { self.new.outputs ≡ self.old.outputs }
+        ensures starts { self.new.starts ≡ self.old.starts }
+        ensures inboxes { self.new.inboxes ≡ self.old.inboxes }
+        ensures ready { self.new.ready ≡ self.old.ready }
         ensures roster { self.new.roster ≡ self.old.roster }
         ensures fates { self.new.fates ≡ self.old.fates }
         ensures routes { self.new.routes ≡ self.old.routes }
         ensures entries { self.new.entries ≡ self.old.entries }
     {
         let ActorName::Process(site) = actor else {
-            return;
+            return None;
         };
         let place = place_of_site(&self.topology, site);
-        if place < self.sites.len() {
-            self.sites[place].enter(event);
+        if place >= self.sites.len() {
+            return None;
+        }
+        if self.sites[place].enter(event) {
+            Some(place)
+        } else {
+            None
         }
     }
 
     /// Adds the outputs of the newest entry.
     fn add(&mut self, outputs: &Outputs) -> Result<(), NoMemory>
         ensures adds { OnOk result (Adds (numbered self.old.entries 1 outputs.now) self.old self.new) }
+        ensures marks { OnOk result (KeepsMarks self.old self.new) }
         ensures rest { OnOk result (KeepsRest self.old self.new) }
     {
         for i in 0..outputs.len() {
@@ -264,21 +311,71 @@ impl Netbook {
         Ok(())
     }
 
-    /// Counts an output, and lets it wait where its addressee lives.
+    /// Counts an output, and adds it with its fate.
     fn add_output(&mut self, place: u64, message: &Message) -> Result<(), NoMemory>
         ensures adds { OnOk result (Adds (record { entry = self.old.entries; place = place; message = message.now } ∷ []) self.old self.new) }
+        ensures marks { OnOk result (KeepsMarks self.old self.new) }
         ensures rest { OnOk result (KeepsRest self.old self.new) }
     {
         let (from, to) = (message.from, message.to);
         let route = Route { from, to };
         let ordinal = self.routes.count(route)?;
-        if self.is_alive(to) {
-            let fate = self.fates.of(Passage { route, ordinal });
-            self.waiting
-                .push(Output::new(self.entries, place, to, fate))?;
-        }
+        let fate = self.fates.of(Passage { route, ordinal });
+        self.push(Output::new(self.entries, place, to, fate))?;
         Ok(())
     }
+
+    /// Adds an output: to all of them, to its site's inbox, and whether it may be delivered or lost now.
+    fn push(&mut self, output: Output) -> Result<(), NoMemory>
+        ensures outputs { OnOk result (self.new.outputs.items ≡ self.old.outputs.items ++ output ∷ []) }
+        ensures marks { OnOk result (KeepsMarks self.old self.new) }
+        ensures rest { OnOk result (KeepsRest self.old self.new) }
+        ensures routes { OnOk result (self.new.routes ≡ self.old.routes) }
+    {
+        let ready = self.is_ready(&output);
+        self.ready.push(ready)?;
+        let place = self.outputs.len();
+        let home = home_of(&self.topology, output.to);
+        self.outputs.push(output)?;
+        list(&mut self.inboxes, home, place)?;
+        Ok(())
+    }
+}
+
+/// The place of an actor's site, if it is at one.
+fn home_of(topology: &Topology, actor: ActorName) -> Option<usize>
+    ensures { result ≡ home_of topology.now actor }
+{
+    match actor {
+        ActorName::Process(site) | ActorName::Executor(site) => Some(place_of_site(topology, site)),
+        ActorName::Session(_) => None,
+    }
+}
+
+/// Puts an output into the inbox of a site, if there is one.
+fn list(inboxes: &mut Vec<Inbox>, home: Option<usize>, place: usize) -> Result<(), NoMemory>
+    ensures { OnOk result (Lists home place inboxes.old.items inboxes.new.items) }
+{
+    let Some(home) = home else {
+        return Ok(());
+    };
+    if home < inboxes.len() {
+        inboxes[home].places.push(place)?;
+    }
+    Ok(())
+}
+
+/// An empty inbox for each site.
+fn inboxes(alloc: Global, sites: &[Site]) -> Result<Vec<Inbox>, NoMemory>
+    ensures { IfOk result (λ inboxes. length inboxes.items ≡ length sites.now) }
+{
+    let mut inboxes = Vec::new(alloc);
+    for _site in sites {
+        inboxes.push(Inbox {
+            places: Vec::new(alloc),
+        })?;
+    }
+    Ok(inboxes)
 }
 
 /// One watch of each site.

@@ -1,14 +1,13 @@
-ghost use Rattle.std.specs.Prelude.{◌≡◌};
+ghost use Rattle.std.specs.Prelude.{◌≡◌, ◌<◌, ◌^◌, ℕ, Some};
 ghost use Rattle.tp_netbook.specs.Fates.{fate_of};
-ghost use Rattle.tp_netbook.specs.Outputs.{crashes, event_of, is_named, new_output, passed, waits};
+ghost use Rattle.tp_netbook.specs.Outputs.{StandsAt, event_of, is_named, new_output, passed};
 
 use crate::fate::Fate;
 use tp_base::ActorName;
-use tp_rules::{Event, Inner};
+use tp_rules::Event;
 
-/// A message that waits for its deliveries, or for its loss: its place among the outputs of an entry,
-/// both from 1, its addressee, whether it is to be lost, and how many of its deliveries are left. A
-/// loss that is to come counts as one.
+/// A message that was sent: its place among the outputs of an entry, both from 1, its addressee, whether
+/// it is to be lost, and how many of its deliveries are left. A loss that is to come counts as one.
 #[derive(Clone, Copy, Debug, PartialEq, Eq)]
 pub(crate) struct Output {
     pub entry: u64,
@@ -48,15 +47,13 @@ impl Output {
         }
     }
 
-    /// Takes an actor's event, and says whether the output still waits.
-    pub fn take(&mut self, actor: ActorName, event: Event) -> bool
-        ensures output { self.new ≡ passed event self.old }
-        ensures still { result ≡ waits actor event self.new }
+    /// Takes an event, which may deliver it or lose it.
+    pub fn take(&mut self, event: Event)
+        ensures { self.new ≡ passed event self.old }
     {
         if self.is_named(event) {
             self.left = self.left.saturating_sub(1);
         }
-        self.left > 0 && !crashes(actor, event, self.to)
     }
 
     /// Whether an event delivers it, or loses it.
@@ -75,14 +72,22 @@ impl Output {
     }
 }
 
-/// Whether by an event of one actor the site of another crashes.
-fn crashes(actor: ActorName, event: Event, other: ActorName) -> bool
-    ensures { result ≡ crashes actor event other }
+/// The place among all outputs of the one that an event delivers or loses, by how many were sent before each
+/// entry.
+pub(crate) fn place_in(starts: &[usize], event: Event) -> Option<usize>
+    ensures { (place : ℕ) → StandsAt starts.now event place → place < 2 ^ 63 → result ≡ Some place }
 {
-    match other {
-        ActorName::Process(site) | ActorName::Executor(site) => {
-            actor == ActorName::Process(site) && event == Event::Inner(Inner::Crash)
+    match event {
+        Event::Deliver { entry, place } | Event::Dropped { entry, place } => {
+            let start = starts.get((entry as usize).saturating_sub(1))?;
+            Some(start.saturating_add(place as usize).saturating_sub(1))
         }
-        ActorName::Session(_) => false,
+        Event::Inner(_) => None,
     }
+}
+
+/// The places of the outputs to a site, to its process and to its executor.
+#[derive(Debug, Drop)]
+pub(crate) struct Inbox {
+    pub places: Vec<usize>,
 }

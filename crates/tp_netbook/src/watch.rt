@@ -1,5 +1,5 @@
 ghost use Rattle.std.specs.Prelude.{◌≡◌, ◌+◌, ◌<◌, ◌^◌, cond, not, true, ◌&&◌, ℕ, List};
-ghost use Rattle.tp_netbook.specs.Netbook.{line_due, line_item};
+ghost use Rattle.tp_netbook.specs.Netbook.{line_due, line_item, turned};
 ghost use Rattle.tp_rules.specs.Journal.{is_crash};
 ghost use Rattle.tp_rules.specs.Plan.{is_planned};
 
@@ -44,14 +44,16 @@ impl Watch {
         })
     }
 
-    /// Counts an entry of the process.
-    pub fn enter(&mut self, event: Event)
+    /// Counts an entry of the process, and says whether it turned: whether the site lives, or whether no line is due.
+    pub fn enter(&mut self, event: Event) -> bool
+        ensures turned { result ≡ turned self.old self.new }
         ensures site { self.new.site ≡ self.old.site }
         ensures live { self.new.live ≡ (self.old.live && not (is_crash event)) }
         ensures made { self.old.made + 1 < 2 ^ 64 → self.new.made ≡ self.old.made + 1 }
         ensures lines { self.new.lines.items ≡ self.old.lines.items }
         ensures came { self.old.came + 1 < 2 ^ 64 → self.new.came ≡ cond (is_planned event) (self.old.came + 1) self.old.came }
     {
+        let (live, undue) = (self.live, self.due().is_none());
         self.made = self.made.saturating_add(1);
         if is_planned(event) {
             self.came = self.came.saturating_add(1);
@@ -59,6 +61,7 @@ impl Watch {
         if event == Event::Inner(Inner::Crash) {
             self.live = false;
         }
+        live != self.live || undue != self.due().is_none()
     }
 }
 

@@ -1,20 +1,15 @@
-use Rattle.std.proofs.Common.{◌++◌, ◌∷◌, [], refl, ap, sym, ◌∙◌}
-use Rattle.tp_netbook.proofs.Adding.{adds_gone, adds_live}
-use Rattle.tp_netbook.proofs.Counting.{alive_alike}
+use Rattle.std.proofs.Common.{◌++◌, ◌∷◌, [], sym, ap, subst, ◌∙◌}
+use Rattle.tp_netbook.proofs.Adding.{adds_one}
 use Rattle.tp_netbook.specs.Fates.{fate_of}
+use Rattle.tp_netbook.specs.Routes.{HasCounted, route_of}
 use Rattle.tp_netbook.specs.declared.output.Output.{Output}
 use Rattle.tp_netbook.proofs.netbook.Netbook.add_output.Goals as goal
+use Rattle.tp_rules.specs.declared.event.Parcel.{Parcel}
 
-pub returns-in_ok-push-clause-adds : goal.returns-in_ok-push-clause-adds
-returns-in_ok-push-clause-adds c = adds_live (record { entry = c.args.self.now.entries; place = c.args.place; message = c.args.message.now })
-    c.args.self.now (record c.args.self.now { routes = c.count.new.self; waiting = c.push.new.self }) c.in_ok-ordinal.ordinal c.in_ok-ordinal.ensures
-    (fate_of c.of-fate.result)
-    (alive_alike c.args.self.now (record c.args.self.now { routes = c.count.new.self }) c.args.message.now.to refl refl ∙ sym c.is_alive.ensures ∙ c.if-is_alive.true)
+pub returns-clause-adds : goal.returns-clause-adds
+returns-clause-adds c =
+    let p : Parcel = record { entry = c.args.self.now.entries; place = c.args.place; message = c.args.message.now } in
+    adds_one p c.args.self.now c.push.new.self c.in_ok-ordinal.ordinal (fate_of c.of-fate.result)
+    (subst (λ routes. HasCounted c.args.self.now.routes routes (route_of p) c.in_ok-ordinal.ordinal) (sym c.in_ok-push.ensures.routes) c.in_ok-ordinal.ensures)
     c.of-fate.ensures
-    (c.in_ok-push.ensures.items ∙ ap (λ (o : Output). c.args.self.now.waiting.items ++ o ∷ []) c.new.ensures)
-
-pub returns-else-is_alive-clause-adds : goal.returns-else-is_alive-clause-adds
-returns-else-is_alive-clause-adds c = adds_gone (record { entry = c.args.self.now.entries; place = c.args.place; message = c.args.message.now })
-    c.args.self.now (record c.args.self.now { routes = c.count.new.self }) c.in_ok-ordinal.ordinal c.in_ok-ordinal.ensures
-    (alive_alike c.args.self.now (record c.args.self.now { routes = c.count.new.self }) c.args.message.now.to refl refl ∙ sym c.is_alive.ensures ∙ c.if-is_alive.false)
-    refl
+    (c.in_ok-push.ensures.outputs ∙ ap (λ (o : Output). c.args.self.now.outputs.items ++ o ∷ []) c.new.ensures)

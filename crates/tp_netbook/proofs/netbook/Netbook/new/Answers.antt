@@ -1,16 +1,34 @@
-use Rattle.std.proofs.Common.{refl, subst}
+use Rattle.std.proofs.Common.{refl, subst, ap, ◌∙◌, length}
+use Rattle.tp_netbook.proofs.Marks.{none_ready}
+use Rattle.tp_netbook.proofs.Turned.{none_listed}
 use Rattle.tp_netbook.specs.Fates.{AreFates}
-use Rattle.tp_netbook.specs.Netbook.{outputs_left}
+use Rattle.tp_netbook.specs.declared.netbook.Netbook.{Netbook}
 use Rattle.tp_netbook.proofs.netbook.Netbook.new.Goals as goal
 
 pub returns : goal.returns
-unfolding outputs_left
-returns c = record {
-  topology = refl;
-  sites = c.in_ok-watches.ensures;
-  roster = c.in_ok-roster.ensures;
-  fates = subst (λ plan. AreFates plan c.in_ok-new.field-0) c.as_slice-3.ensures c.in_ok-new.ensures;
-  routes = c.new-2.ensures;
-  waiting = c.new-3.ensures.items;
-  entries = refl;
-}
+returns c =
+    let book : Netbook = record {
+      topology = c.args.script.now.topology;
+      sites = c.in_ok-watches.field-0;
+      roster = c.in_ok-roster.field-0;
+      fates = c.in_ok-new.field-0;
+      routes = c.new-2.result;
+      outputs = c.new-3.result;
+      starts = c.new-4.result;
+      inboxes = c.in_ok-inboxes.field-0;
+      ready = c.new-5.result;
+      entries = 0;
+    } in
+    record {
+      topology = refl;
+      sites = c.in_ok-watches.ensures;
+      roster = c.in_ok-roster.ensures;
+      fates = subst (λ plan. AreFates plan c.in_ok-new.field-0) c.as_slice-3.ensures c.in_ok-new.ensures;
+      routes = c.new-2.ensures;
+      outputs = c.new-3.ensures.items;
+      starts = c.new-4.ensures.items;
+      inboxes = c.in_ok-inboxes.ensures ∙ ap length c.as_slice-4.ensures.value ∙ ap length c.in_ok-sites.ensures;
+      listed = none_listed book c.new-3.ensures.items;
+      ready = none_ready book c.new-3.ensures.items c.new-5.ensures;
+      entries = refl;
+    }

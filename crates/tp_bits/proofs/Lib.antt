@@ -1,0 +1,4 @@
+pub mod Sums
+mod Selected
+mod Tallies
+mod Searches

@@ -1,0 +1,17 @@
+use Rattle.std.proofs.Common.{◌≡◌, length, refl, subst, arith}
+use Rattle.tp_netbook.proofs.Marks.{ready_more}
+use Rattle.tp_netbook.proofs.Turned.{listed_more}
+use Rattle.tp_netbook.proofs.netbook.Netbook.push.Goals as goal
+use Rattle.tp_netbook.specs.Netbook.{Lists}
+use Rattle.tp_netbook.specs.declared.netbook.Netbook.{Netbook}
+
+pub returns-clause-marks : goal.returns-clause-marks
+returns-clause-marks c =
+    let new : Netbook = record c.args.self.now { outputs = c.push-2.new.self; inboxes = c.list.new.inboxes; ready = c.push.new.self } in
+    let place : c.len-place.result ≡ length c.args.self.now.outputs.items = omega (arith, c.len-place.ensures) in
+    record {
+      ready = ready_more c.args.self.now new c.args.output c.is_ready-ready.result refl refl c.in_ok-push-2.ensures.items c.is_ready-ready.ensures c.in_ok-push.ensures;
+      listed = listed_more c.args.self.now new c.args.output c.home_of-home.result c.in_ok-push-2.ensures.items refl c.home_of-home.ensures
+          (subst (λ n. Lists c.home_of-home.result n c.args.self.now.inboxes.items c.list.new.inboxes.items) place c.in_ok-list.ensures);
+      inboxes = c.in_ok-list.ensures.0;
+    }
