@@ -7,15 +7,15 @@ ghost use Rattle.tp_rules.specs.Left.{left};
 ghost use Rattle.tp_rules.specs.Pending.{IsQuiet};
 ghost use Rattle.tp_rules.specs.Runs.{IsRun, outputs_in};
 ghost use Rattle.tp_rules.specs.declared.event.Entry.{Entry as EntryValue};
-ghost use Rattle.tp_rules.specs.declared.event.Event.TheVariants.{Deliver, Dropped, Inner as OfItself};
 ghost use Rattle.tp_script.specs.declared.script.Script.{Script as ScriptValue};
 
+use crate::acting::act;
 use crate::choice::choose;
 use std::alloc::Global;
-use tp_base::{ActorName, NoMemory};
+use tp_base::NoMemory;
 use tp_journal::Journal;
 use tp_netbook::{Netbook, place_of};
-use tp_rules::{Actor, Entry, Event, Inner, Item, Outputs};
+use tp_rules::{Actor, Entry, Inner, Item, Outputs};
 use tp_script::Script;
 
 /// Enters one step after the other until nothing is pending: each is the one that the next pick
@@ -74,7 +74,7 @@ fn turn<A: Actor>(
     let Some(item) = choose(script, journal, netbook, next) else {
         return Ok(false);
     };
-    let outputs = act(alloc, script, journal, actors, item)?;
+    let outputs = act_after(alloc, script, journal, actors, item)?;
     let home = place_of(script, item.actor);
     prove!(home < actors.len());
     prove!(home < next.len());
@@ -89,8 +89,8 @@ fn turn<A: Actor>(
     Ok(true)
 }
 
-// An actor makes a step, and gives what it sends.
-fn act<A: Actor>(
+// An actor makes a step after a journal, and gives what it sends.
+fn act_after<A: Actor>(
     alloc: Global,
     script: &Script,
     journal: &Journal,
@@ -104,60 +104,5 @@ fn act<A: Actor>(
     ensures outputs { IfOk result (λ outputs. outputs ≡ outputs_in script.now (reverse journal.now) item.actor item.event) }
     ensures cast { OnOk result ((e : EntryValue) → e.actor ≡ item.actor → e.event ≡ item.event → AllStand A.identity_of A.is_spent A.stands script.now actors.new (journal.now ++ e ∷ [])) }
 {
-    match item.event {
-        Event::Deliver { entry, place } => deliver(
-            alloc, script, journal, actors, item.actor, entry, place,
-        ),
-        Event::Dropped { entry: _, place: _ } => Ok(Outputs::new(alloc)),
-        Event::Inner(inner) => fire(script, journal, actors, item.actor, inner),
-    }
-}
-
-// The addressee of an output takes it.
-fn deliver<A: Actor>(
-    alloc: Global,
-    script: &Script,
-    journal: &Journal,
-    actors: &mut [A],
-    to: ActorName,
-    entry: u64,
-    place: u64,
-) -> Result<Outputs, NoMemory>
-    requires accepted { IsAccepted script.now }
-    requires run { IsRun script.now journal.now }
-    requires cast { AllStand A.identity_of A.is_spent A.stands script.now actors.old journal.now }
-    requires may { MayCome script.now journal.now (record { actor = to; event = Deliver entry place }) }
-    ensures outputs { IfOk result (λ outputs. outputs ≡ outputs_in script.now (reverse journal.now) to (Deliver entry place)) }
-    ensures cast { OnOk result ((e : EntryValue) → e.actor ≡ to → e.event ≡ Deliver entry place → AllStand A.identity_of A.is_spent A.stands script.now actors.new (journal.now ++ e ∷ [])) }
-{
-    let Some(message) = journal.output(entry, place) else {
-        return Ok(Outputs::new(alloc));
-    };
-    let home = place_of(script, to);
-    prove!(home < actors.len());
-    let actor = &mut actors[home];
-    let outputs = actor.deliver(message)?;
-    Ok(outputs)
-}
-
-// An actor makes a step of its own.
-fn fire<A: Actor>(
-    script: &Script,
-    journal: &Journal,
-    actors: &mut [A],
-    name: ActorName,
-    inner: Inner,
-) -> Result<Outputs, NoMemory>
-    requires accepted { IsAccepted script.now }
-    requires run { IsRun script.now journal.now }
-    requires cast { AllStand A.identity_of A.is_spent A.stands script.now actors.old journal.now }
-    requires may { MayCome script.now journal.now (record { actor = name; event = OfItself inner }) }
-    ensures outputs { IfOk result (λ outputs. outputs ≡ outputs_in script.now (reverse journal.now) name (OfItself inner)) }
-    ensures cast { OnOk result ((e : EntryValue) → e.actor ≡ name → e.event ≡ OfItself inner → AllStand A.identity_of A.is_spent A.stands script.now actors.new (journal.now ++ e ∷ [])) }
-{
-    let home = place_of(script, name);
-    prove!(home < actors.len());
-    let actor = &mut actors[home];
-    let outputs = actor.fire(inner)?;
-    Ok(outputs)
+    act(alloc, script, journal.entries().as_slice(), actors, item)
 }

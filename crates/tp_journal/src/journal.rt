@@ -33,6 +33,13 @@ impl Journal {
         }
     }
 
+    /// The journal with these entries. It takes no memory.
+    pub fn of(entries: Entries) -> Journal
+        ensures { result ≡ entries }
+    {
+        Journal { entries }
+    }
+
     /// Appends an entry, and gives the new length.
     pub fn enter(&mut self, entry: Entry) -> Result<u64, NoMemory>
         ensures entered { OnOk result (self.new ≡ self.old ++ entry ∷ []) }
@@ -63,12 +70,19 @@ impl Journal {
     pub fn output(&self, entry: u64, place: u64) -> Option<&Message>
         ensures { option_copied result ≡ output_in self.now entry place }
     {
-        if entry == 0 || place == 0 {
-            return None;
-        }
-        let sender = self.entries.get(entry as usize - 1)?;
-        sender.outputs.get(place as usize - 1)
+        output(self.entries.as_slice(), entry, place)
     }
+}
+
+/// The message at a place of one of some entries, both from 1.
+pub fn output(entries: &[Entry], entry: u64, place: u64) -> Option<&Message>
+    ensures { option_copied result ≡ output_in entries.now entry place }
+{
+    if entry == 0 || place == 0 {
+        return None;
+    }
+    let sender = entries.get(entry as usize - 1)?;
+    sender.outputs.get(place as usize - 1)
 }
 
 // Where a site crashed first, from 0.

@@ -3,4 +3,4 @@
 
 mod journal;
 
-pub use journal::Journal;
+pub use journal::{Journal, output};

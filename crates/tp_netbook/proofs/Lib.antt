@@ -13,3 +13,4 @@ pub mod Adding
 pub mod NewOutputs
 pub mod Turned
 pub mod Steps
+pub mod Ledgers

@@ -25,7 +25,7 @@ use Rattle.tp_wire.specs.declared.message.Message.{Message}
 
 -- an output was sent no later than the place of an entry, or later
 
-abbrev IsEarlier : ℕ → ℕ → Parcel → Type 0
+abbrev pub IsEarlier : ℕ → ℕ → Parcel → Type 0
 IsEarlier n k q = (q.entry < n) ⊎ ((q.entry ≡ n) × (q.place < k))
 
 abbrev is_no_later : ℕ → ℕ → Parcel → Bool
@@ -68,7 +68,7 @@ module _ (script : Script) (older : List Entry) (e : Entry) (history : IsFreeHis
         ∙ ap (λ (l : List Parcel). length (filter (λ q. same_route (route_of q) (route_of here)) before ++ l)) new
         ∙ length-append (filter (λ q. same_route (route_of q) (route_of here)) before) (here ∷ [])
 
-    fate_is : fate_of script (e ∷ older) here ≡ fate_by script.plan m.from m.to (next_number before here)
+    pub fate_is : fate_of script (e ∷ older) here ≡ fate_by script.plan m.from m.to (next_number before here)
     unfolding fate_of
     fate_is = ap (λ (i : ℕ). fate_by script.plan m.from m.to i) number_is
 

@@ -176,7 +176,7 @@ crashed_no : (older : List Entry) (e : Entry) (s : Site) → same_name e.actor (
 crashed_no older e s apart = rw apart refl
 
 module _ (script : Script) (older : List Entry) (e : Entry) (w : Watch) (s : Site) (is : IsWatch script older w s) where
-  watch_same : same_name e.actor (Process s) ≡ false → IsWatch script (e ∷ older) w s
+  pub watch_same : same_name e.actor (Process s) ≡ false → IsWatch script (e ∷ older) w s
   watch_same apart =
       let entries = entries_same older e s apart in record {
         site = is.site;
@@ -186,7 +186,7 @@ module _ (script : Script) (older : List Entry) (e : Entry) (w : Watch) (s : Sit
         came = is.came ∙ ap (λ (l : List Entry). length (filter (λ x. is_planned x.event) l)) (sym entries);
       }
 
-  watch_more : (w' : Watch) → same_name e.actor (Process s) ≡ true → length older + 1 < 2 ^ 64 → IsCounted e.event w w' → IsWatch script (e ∷ older) w' s
+  pub watch_more : (w' : Watch) → same_name e.actor (Process s) ≡ true → length older + 1 < 2 ^ 64 → IsCounted e.event w w' → IsWatch script (e ∷ older) w' s
   watch_more w' own short counted =
       let entries = entries_more older e s own in
       let many : length (e ∷ entries_of older s) ≡ w.made + 1 = omega (arith, is.made) in

@@ -3,3 +3,4 @@ pub mod Places
 pub mod Routes
 pub mod Outputs
 pub mod Fates
+pub mod Ledger

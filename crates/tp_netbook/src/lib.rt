@@ -2,7 +2,9 @@
 //! the actors' own steps.
 #![tactic(auto)]
 
+mod deliveries;
 mod fate;
+mod ledger;
 mod line;
 mod netbook;
 mod output;
@@ -10,5 +12,6 @@ mod roster;
 mod route;
 mod watch;
 
+pub use ledger::Ledger;
 pub use netbook::Netbook;
 pub use roster::place_of;

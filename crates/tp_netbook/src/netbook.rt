@@ -379,7 +379,11 @@ fn inboxes(alloc: Global, sites: &[Site]) -> Result<Vec<Inbox>, NoMemory>
 }
 
 /// One watch of each site.
-fn watches(alloc: Global, script: &Script, sites: &[Site]) -> Result<Vec<Watch>, NoMemory>
+pub(crate) fn watches(
+    alloc: Global,
+    script: &Script,
+    sites: &[Site],
+) -> Result<Vec<Watch>, NoMemory>
     requires { sites.now ≡ sites_of script.now }
     ensures { IfOk result (λ watches. AreWatches script.now [] watches.items) }
 {

@@ -66,7 +66,7 @@ impl Watch {
 }
 
 /// Whether an event comes by the plan alone.
-fn is_planned(event: Event) -> bool
+pub(crate) fn is_planned(event: Event) -> bool
     ensures { result ≡ is_planned event }
 {
     matches!(event, Event::Inner(Inner::Crash | Inner::Recover(_)))

@@ -1,3 +1,2 @@
-pub mod Casting
 pub mod TextLaws
 pub mod TopCalls

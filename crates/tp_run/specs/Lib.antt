@@ -1,4 +1,3 @@
-pub mod Actors
 pub mod Status
 pub mod Texts
 pub mod TopCall

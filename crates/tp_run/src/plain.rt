@@ -12,11 +12,11 @@ ghost use Rattle.tp_script.specs.declared.script.Script.{Script as ScriptValue};
 ghost use Rattle.tp_run.specs.Texts.{INPUT_MOST, IsTextOf, cause_of};
 ghost use Rattle.tp_run.specs.TopCall.{step_words, IsStatusOf, IsSaidBy, IsRefusedFor, IsOrMemory, IsFaultOf};
 
-use crate::cast::cast;
 use crate::finished::{Cause, Finished};
 use crate::text::{INPUT_LIMIT, read_text};
 use std::alloc::Global;
 use tp_base::Bytes;
+use tp_cast::cast;
 use tp_driver::drive;
 use tp_journal::Journal;
 use tp_outside::{ReadError, Sink, Source, WriteFault, read_to_limit, write_all};

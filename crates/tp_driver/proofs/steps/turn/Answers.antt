@@ -14,8 +14,8 @@ use Rattle.tp_rules.specs.declared.event.Entry.{Entry}
 pub returns-in_default-clause-quiet : goal.returns-in_default-clause-quiet
 returns-in_default-clause-quiet g c = λ still. quiet_where c.args.script.now c.args.journal.now c.in_default.ensures.chosen
 
-pub act-requires-clause-may : goal.act-requires-clause-may
-act-requires-clause-may g c = may_come c.args.script.now c.requires.accepted c.args.journal.now c.requires.driven.run c.in-Some.item c.in-Some.ensures.chosen
+pub act_after-requires-clause-may : goal.act_after-requires-clause-may
+act_after-requires-clause-may g c = may_come c.args.script.now c.requires.accepted c.args.journal.now c.requires.driven.run c.in-Some.item c.in-Some.ensures.chosen
 
 pub place_of-home-requires : goal.place_of-home-requires
 place_of-home-requires g c = (may_come c.args.script.now c.requires.accepted c.args.journal.now c.requires.driven.run c.in-Some.item c.in-Some.ensures.chosen).known
@@ -23,8 +23,8 @@ place_of-home-requires g c = (may_come c.args.script.now c.requires.accepted c.a
 pub prove-unreachable-requires : goal.prove-unreachable-requires
 prove-unreachable-requires g c =
     let e : Entry = record { actor = c.in-Some.item.actor; event = c.in-Some.item.event; outputs = c.in_ok-outputs.outputs } in
-    let inside : c.place_of-home.result < length c.act.new.actors =
-    within g.A.Actor.identity_of g.A.Actor.is_spent g.A.Actor.stands c.args.script.now c.act.new.actors (c.args.journal.now ++ e ∷ []) (c.in_ok-outputs.ensures.cast e refl refl) c.in-Some.item.actor
+    let inside : c.place_of-home.result < length c.act_after.new.actors =
+    within g.A.Actor.identity_of g.A.Actor.is_spent g.A.Actor.stands c.args.script.now c.act_after.new.actors (c.args.journal.now ++ e ∷ []) (c.in_ok-outputs.ensures.cast e refl refl) c.in-Some.item.actor
     (may_come c.args.script.now c.requires.accepted c.args.journal.now c.requires.driven.run c.in-Some.item c.in-Some.ensures.chosen).known c.place_of-home.result c.place_of-home.ensures in
     omega (arith, inside, c.if-prove.true)
 
@@ -45,7 +45,7 @@ returns-clause-netbook g c =
 pub returns-clause-cast : goal.returns-clause-cast
 returns-clause-cast g c =
     let e : Entry = record { actor = c.in-Some.item.actor; event = c.in-Some.item.event; outputs = c.in_ok-outputs.outputs } in
-    subst (AllStand g.A.Actor.identity_of g.A.Actor.is_spent g.A.Actor.stands c.args.script.now c.act.new.actors) (sym c.in_ok-enter.ensures.entered) (c.in_ok-outputs.ensures.cast e refl refl)
+    subst (AllStand g.A.Actor.identity_of g.A.Actor.is_spent g.A.Actor.stands c.args.script.now c.act_after.new.actors) (sym c.in_ok-enter.ensures.entered) (c.in_ok-outputs.ensures.cast e refl refl)
 
 pub returns-clause-next : goal.returns-clause-next
 returns-clause-next g c =
@@ -55,9 +55,9 @@ returns-clause-next g c =
     ap (slice_get (actors_of c.args.script.now)) c.place_of-home.ensures ∙ get_place c.args.script.now c.in-Some.item.actor known in
     subst (λ j. AreNext c.args.script.now j (set c.args.next.now c.place_of-home.result c.next_inner.result)) (sym c.in_ok-enter.ensures.entered)
     (next_after c.args.script.now c.args.journal.now e c.in-Some.item.actor known refl c.args.next.now c.place_of-home.result c.next_inner.result c.requires.next c.place_of-home.ensures
-    (next_at g.A.Actor.identity_of g.A.Actor.is_spent g.A.Actor.stands c.args.script.now c.act.new.actors (c.args.journal.now ++ e ∷ []) (c.in_ok-outputs.ensures.cast e refl refl)
+    (next_at g.A.Actor.identity_of g.A.Actor.is_spent g.A.Actor.stands c.args.script.now c.act_after.new.actors (c.args.journal.now ++ e ∷ []) (c.in_ok-outputs.ensures.cast e refl refl)
     c.place_of-home.result _ c.next_inner.result c.in-Some.item.actor
-    (slice_get-get_or c.act.new.actors c.place_of-home.result c.index-actors-home.result c.if-prove.false) there c.next_inner.ensures))
+    (slice_get-get_or c.act_after.new.actors c.place_of-home.result c.index-actors-home.result c.if-prove.false) there c.next_inner.ensures))
 
 pub returns-clause-falls : goal.returns-clause-falls
 returns-clause-falls g c = λ went.

@@ -1,0 +1,4 @@
+pub mod Flaws
+pub mod Replays
+pub mod Decided
+pub mod Complete
