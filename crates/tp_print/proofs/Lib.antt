@@ -10,3 +10,4 @@ pub mod Recording
 pub mod Records
 pub mod Reporting
 pub mod Rows
+pub mod Summing

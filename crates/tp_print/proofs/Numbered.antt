@@ -5,6 +5,8 @@ use Rattle.std.specs.Prelude.{◌==◌, filter, map}
 use Rattle.std.proofs.lemmas.Bool.{cases_eq, eq-eqb, ne_eqb}
 use Rattle.std.proofs.lemmas.Grind.{flat_map-append}
 use Rattle.std.proofs.lemmas.List.Elements.{filter-append}
+use Rattle.tp_base.specs.Limits.{IsFrom}
+use Rattle.tp_base.specs.Lists.{Each}
 use Rattle.tp_ops.specs.declared.command.Command.{Command}
 use Rattle.tp_topology.specs.Counting.{up_to}
 
@@ -122,6 +124,26 @@ none_counted (suc k) = counted_more [] k ∙ (omega (arith, none_counted k))
 pub counted_few : (cs : List Command) (k : ℕ) → length (flat_map (of_session cs) (up_to k)) ≤ length cs
 counted_few [] k = omega (arith, none_counted k)
 counted_few (c ∷ cs) k = omega (arith, (counted_once c cs k).once, counted_few cs k)
+
+counted_here : (c : Command) (cs : List Command) (k : ℕ) → IsFrom 1 k c.id.session.0
+    → counted (c ∷ cs) k ≡ suc (counted cs k)
+counted_here c cs zero h = absurd (omega (arith, h.0, h.1))
+counted_here c cs (suc k) h = elim (cases_eq c.id.session.0 (suc k)) [
+  | inl e ↦ omega (arith, counted_more (c ∷ cs) k, counted_more cs k, of_this c cs (suc k) e, (counted_once c cs k).before (omega (arith, e)))
+  | inr apart ↦ omega (
+    arith,
+    counted_more (c ∷ cs) k,
+    counted_more cs k,
+    of_other c cs (suc k) apart,
+    counted_here c cs k (h.0, omega (arith, h.1, apart)),
+  )
+]
+
+-- each command of the first sessions is counted
+pub all_counted : (cs : List Command) (k : ℕ) → Each (λ c. IsFrom 1 k c.id.session.0) cs
+    → length (flat_map (of_session cs) (up_to k)) ≡ length cs
+all_counted [] k h = none_counted k
+all_counted (c ∷ cs) k h = omega (arith, counted_here c cs k h.0, all_counted cs k h.1)
 
 pub total_more : {A : Type 0} (f : ℕ → List A) (n : ℕ)
     → length (flat_map f (up_to (n + 1))) ≡ length (flat_map f (up_to n)) + length (f (n + 1))

@@ -6,12 +6,14 @@ use Rattle.std.specs.Prelude.{codes, filter, is_none, map, reverse}
 use Rattle.std.proofs.lemmas.List.{append-nil}
 use Rattle.std.proofs.lemmas.List.Folds.{flat_map-map}
 use Rattle.tp_base.specs.declared.names.CommandId.{CommandId}
+use Rattle.tp_base.specs.declared.names.Site.{Site}
 use Rattle.tp_print.proofs.Numbered.{filter_flat, flat_map_flat, length-filter_map, length-flat_map-same}
 use Rattle.tp_print.specs.Replies.{lines_of, numbers_of, open_of}
-use Rattle.tp_print.specs.Report.{id_of, id_word, ids_of, open_count, order_line, order_lines, reply_line, reply_lines, report_text, spaced, text_line}
+use Rattle.tp_print.specs.Report.{id_of, id_word, ids_of, open_count, order_lines, reply_line, reply_lines, report_text, spaced, text_line}
 use Rattle.tp_rules.specs.Addresses.{site}
 use Rattle.tp_rules.specs.Journal.{ranks_of}
 use Rattle.tp_rules.specs.Outcome.{line, reply_to}
+use Rattle.tp_rules.specs.Pending.{sites_of}
 use Rattle.tp_rules.specs.declared.event.Entry.{Entry}
 use Rattle.tp_script.specs.declared.script.Script.{Script}
 use Rattle.tp_topology.specs.Counting.{up_to}
@@ -32,12 +34,12 @@ open_count_is script older =
     (open_of script older) (up_to (length script.homes))
     (λ s. length-filter_map (λ (id : CommandId). is_none (reply_to script older id)) (id_of s) (numbers_of script s)))
 
-pub order_lines_are : (script : Script) (older : List Entry)
-    → flat_map (λ p. flat_map (λ k. order_line older (site p k)) (up_to script.topology.replicas))
-    (up_to script.topology.partitions) ≡ order_lines script older
-order_lines_are script older =
-    sym (flat_map_flat (order_line older) (ranks_of script) (up_to script.topology.partitions)
-    ∙ (λ j. flat_map (λ p. flat_map-map (order_line older) (site p) (up_to script.topology.replicas) j)
+pub site_lines_are : (script : Script) (text : Site → List ℕ)
+    → flat_map (λ p. flat_map (λ k. text (site p k)) (up_to script.topology.replicas))
+    (up_to script.topology.partitions) ≡ flat_map text (sites_of script)
+site_lines_are script text =
+    sym (flat_map_flat text (ranks_of script) (up_to script.topology.partitions)
+    ∙ (λ j. flat_map (λ p. flat_map-map text (site p) (up_to script.topology.replicas) j)
     (up_to script.topology.partitions)))
 
 last_lines : (before first word last : List ℕ)

@@ -4,3 +4,4 @@ pub mod Recorded
 pub mod Replies
 pub mod Report
 pub mod Results
+pub mod Summary

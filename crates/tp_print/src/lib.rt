@@ -3,6 +3,7 @@
 
 mod commands;
 mod events;
+mod executions;
 mod first_results;
 mod journal;
 mod line;
@@ -14,6 +15,8 @@ mod report_text;
 mod results;
 mod site;
 mod sites;
+mod summary_text;
 mod words;
 
 pub use report_text::report;
+pub use summary_text::summary;

@@ -1,9 +1,9 @@
 use Rattle.std.proofs.Common.{◌∙◌, ◌++◌, [], ◌∷◌, List, ℕ, map, subst, ap}
 use Rattle.std.specs.Prelude.{codes, reverse}
 use Rattle.tp_base.specs.declared.names.CommandId.{CommandId}
-use Rattle.tp_print.proofs.Reporting.{order_lines_are, report_is}
+use Rattle.tp_print.proofs.Reporting.{report_is, site_lines_are}
 use Rattle.tp_print.specs.Outcomes.{IsOutcome}
-use Rattle.tp_print.specs.Report.{id_word, text_line}
+use Rattle.tp_print.specs.Report.{id_word, order_line, text_line}
 use Rattle.tp_rules.specs.declared.event.Entry.{Entry}
 use Rattle.tp_print.proofs.report_text.report.Goals as goal
 
@@ -22,7 +22,7 @@ returns c =
     (c.in_ok-bytes.ensures.written ∙ ap (λ (l : List ℕ). l ++ (codes "report 1" ++ 10 ∷ [])) c.new-out.ensures)
     (c.in_ok-unanswered.ensures.lines older outcome.results)
     (c.in_ok-put_orders.ensures older outcome.sites
-    ∙ ap (λ (l : List ℕ). c.put_replies.new.out ++ l) (order_lines_are script older))
+    ∙ ap (λ (l : List ℕ). c.put_replies.new.out ++ l) (site_lines_are script (order_line older)))
     (c.in_ok-put_line.ensures
     ∙ ap (λ (ids : List CommandId). c.put_orders.new.out ++ text_line (codes "line") (map id_word ids))
     (c.as_slice-3.ensures.keys ∙ outcome.line))
