@@ -1,5 +1,5 @@
 use Rattle.std.proofs.Common.{◌≡◌, ◌-◌, ℕ, ap, map, ◌++◌, [], ◌∷◌, ◌∙◌, arith}
-use Rattle.tp_gen.proofs.Accepting.{one_more}
+use Rattle.tp_gen.proofs.Making.{one_more}
 use Rattle.tp_gen.proofs.commands.commands.Goals as goal
 use Rattle.tp_gen.specs.Generator.{command}
 use Rattle.tp_ops.specs.declared.command.Command.{Command}

@@ -1,5 +1,6 @@
 use Rattle.std.proofs.Common.{subst, sym}
-use Rattle.tp_gen.proofs.Accepting.{accepted, script_is, shape_taken}
+use Rattle.tp_gen.proofs.Accepting.{accepted}
+use Rattle.tp_gen.proofs.Making.{script_is, shape_taken}
 use Rattle.tp_gen.proofs.generator.gen_script.Goals as goal
 use Rattle.tp_script.specs.Accepted.{IsAccepted}
 
