@@ -119,9 +119,11 @@ module _ (shape : Shape) (me : Site) (state : ExecutorState) (c : Committed) whe
       → enabled_of shape me state (Some c) ≡ None
   waits_next q stable declared some = step_is true false false stable declared (unready_is state c.key.id others q some)
 
+  pub none_unstable : is_stable_here ≡ false → enabled_of shape me state (Some c) ≡ None
+  none_unstable unstable = step_is false (is_undeclared state c.key.id others) (is_ready state c.key.id others) unstable refl refl
+
   unstable_next : (n : ℕ) → IsThreshold shape state n → n < c.key.stamp.0 → enabled_of shape me state (Some c) ≡ None
-  unstable_next n top lt =
-      step_is false (is_undeclared state c.key.id others) (is_ready state c.key.id others) (unstable_past shape state n c.key.stamp.0 top lt) refl refl
+  unstable_next n top lt = none_unstable (unstable_past shape state n c.key.stamp.0 top lt)
 
   pub none_next : (why : Why) → (why ≡ NotDeclared → ⊥) → IsAnswerFor shape me state c (Err why) → enabled_of shape me state (Some c) ≡ None
   none_next Nothing other answer = absurd answer

@@ -18,7 +18,7 @@ use tp_ops::{Answers, Command};
 use tp_promise::Book;
 use tp_queue::Queue;
 use tp_rules::{Actor, Inner, Outputs};
-use tp_stable::threshold;
+use tp_stable::{is_stable, threshold};
 use tp_store::Store;
 use tp_topology::Topology;
 use tp_wire::{Body, Message};
@@ -46,7 +46,7 @@ fn result_of(
 ) -> Result<Outputs, NoMemory>
     ensures { IfOk result (λ outputs. outputs ≡ message (ActorName.Executor site) (ActorName.Session id.session) (Body.MResult id site.partition answers) ∷ []) }
 {
-    let mut outputs = Sequence::new(alloc);
+    let mut outputs = Sequence::from_vec(Vec::with_capacity(alloc, 1)?);
     outputs.add(Message {
         from: ActorName::Executor(site),
         to: ActorName::Session(id.session),
@@ -117,13 +117,16 @@ impl Executor {
     fn is_undeclared(&self, id: CommandId, command: &Command) -> bool
         ensures { (state : ExecutorState) → IsState self.now state → result ≡ is_undeclared state id (others_accessed self.now.topology command.now self.now.site.partition.0) }
     {
-        !is_alone(&self.topology, self.site.partition, command) && !self.declared.sent(id)
+        !self.declared.sent(id) && !is_alone(&self.topology, self.site.partition, command)
     }
 
     /// The step that the executor may make where this command has the least key.
     fn step_for(&self, key: Key, command: &Command) -> Option<Inner>
         ensures { (state : ExecutorState) → IsState self.now state → result ≡ enabled_of self.now.topology self.now.site state (Some (record { key = key; command = command.now })) }
     {
+        if !is_stable(&self.book, &self.topology, key.stamp) {
+            return None;
+        }
         match self.answer_for(key, command) {
             Ok(id) => Some(Inner::Execute(id)),
             Err(why) => match why {
