@@ -2,9 +2,8 @@
 use Rattle.std.proofs.Common.{◌≡◌, ◌≢◌, ◌⊎◌, ℕ, zero, suc, inl, inr, List, [], ◌∷◌, refl, sym, ap, ◌∙◌, arith}
 use Rattle.std.proofs.lemmas.Bool.{cases_eq}
 use Rattle.std.specs.Coded.{Coded, codes}
-use Rattle.std.specs.Prelude.{Option, None, Some, slice_get, take, ◌-◌}
+use Rattle.std.specs.Prelude.{Option, Some, take, ◌-◌}
 use Rattle.tp_check.specs.Causes.{DifferFirst}
-use Rattle.tp_rules.specs.Tables.{nth}
 use Rattle.tp_rules.specs.declared.event.Event.{Event}
 use Rattle.tp_rules.specs.declared.event.Inner.{Inner}
 use Rattle.tp_wire.specs.declared.message.Message.{Message}

@@ -1,16 +1,13 @@
 -- The first flaw of an entry; an entry without one is legal, and a legal one has none. Used where the checker finds a cause.
-use Rattle.std.proofs.Common.{◌≡◌, ◌≢◌, ◌⊎◌, ℕ, zero, suc, ◌+◌, ◌-◌, ◌<◌, ◌≤◌, inl, inr, Bool, true, false, cond, List, [], ◌∷◌, ◌++◌, get_or, length, take, Option, Some, None, refl, sym, ap, subst, ◌∙◌, arith}
+use Rattle.std.proofs.Common.{◌≡◌, ◌≢◌, ◌⊎◌, ℕ, ◌<◌, ◌≤◌, inl, inr, Bool, true, false, List, get_or, Option, Some, None, refl, sym, ap, subst, ◌∙◌, arith}
 use Rattle.std.proofs.lemmas.Bool.{cases_Bool, cond-false, cond-true}
-use Rattle.std.proofs.lemmas.List.{take_all}
-use Rattle.std.specs.Prelude.{◌↔◌, IsTrue, reverse, slice_get}
-use Rattle.tp_base.proofs.Ends.{reverse_push}
+use Rattle.std.specs.Prelude.{◌↔◌, IsTrue, reverse}
 use Rattle.tp_base.proofs.SameNames.{same_name_is, same_name_refl}
 use Rattle.tp_base.specs.Names.{same_name}
 use Rattle.tp_base.specs.declared.names.ActorName.{ActorName}
 use Rattle.tp_base.specs.declared.names.ActorName.TheVariants.{Process, Executor, Session}
 use Rattle.tp_check.specs.Causes.{DifferFirst, HasFlaw, IsBarred, IsCause, IsForAnother, IsUnsent, order}
 use Rattle.tp_check.specs.Steps.{IsAble, IsAllowed, message_flaw, output_flaw}
-use Rattle.tp_check.specs.Verdicts.{IsFirstIllegal}
 use Rattle.tp_check.specs.declared.verdict.EntryCause.{EntryCause}
 use Rattle.tp_check.specs.declared.verdict.EntryCause.TheVariants.{Stranger, Dead, Message as NoMessage, Addressee, Plan, NotEnabled, Outputs}
 use Rattle.tp_driver.proofs.Stands.{there}
@@ -20,7 +17,7 @@ use Rattle.tp_rules.specs.Acts.{Act, Identity}
 use Rattle.tp_rules.specs.Journal.{acts, identity_in, is_known, is_live, output_at}
 use Rattle.tp_rules.specs.Plan.{due_of}
 use Rattle.tp_rules.specs.Rules.{MayMake}
-use Rattle.tp_rules.specs.Runs.{FollowsLine, FollowsPlan, FollowsRules, IsFor, IsHistory, IsLegal, IsRun, MayHappen, outputs_in}
+use Rattle.tp_rules.specs.Runs.{FollowsLine, FollowsPlan, IsFor, IsLegal, MayHappen, outputs_in}
 use Rattle.tp_rules.specs.Tables.{nth}
 use Rattle.tp_rules.specs.declared.event.Entry.{Entry}
 use Rattle.tp_rules.specs.declared.event.Event.{Event}

@@ -1,5 +1,5 @@
 -- Why an entry is illegal after those before it.
-use Rattle.std.specs.Prelude.{ℕ, ◌≡◌, ◌≢◌, ◌-◌, ◌<◌, false, List, Option, Some, None, take}
+use Rattle.std.specs.Prelude.{ℕ, ◌≡◌, ◌≢◌, ◌-◌, ◌<◌, false, List, Some, None, take}
 use Rattle.tp_base.specs.declared.names.ActorName.{ActorName}
 use Rattle.tp_check.specs.declared.verdict.EntryCause.{EntryCause}
 use Rattle.tp_check.specs.declared.verdict.EntryCause.TheVariants.{Stranger, Dead, Message as NoMessage, Addressee, Plan, NotEnabled, Outputs}

@@ -1,5 +1,5 @@
 -- What the checker tests of an entry, one after the other.
-use Rattle.std.specs.Prelude.{ℕ, ◌≡◌, true, cond, List, Option, Some, None}
+use Rattle.std.specs.Prelude.{◌≡◌, true, cond, List, Option, Some, None}
 use Rattle.tp_base.specs.Names.{same_name}
 use Rattle.tp_base.specs.declared.names.ActorName.{ActorName}
 use Rattle.tp_check.specs.declared.verdict.EntryCause.{EntryCause}

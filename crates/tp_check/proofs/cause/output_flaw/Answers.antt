@@ -1,12 +1,10 @@
-use Rattle.std.proofs.Common.{◌≡◌, None, Some, sym, ap, ◌∙◌}
+use Rattle.std.proofs.Common.{None, Some, sym, ap, ◌∙◌}
 use Rattle.std.proofs.lemmas.Bool.{cond-false, cond-true}
-use Rattle.std.specs.Prelude.{reverse}
 use Rattle.tp_base.specs.Names.{same_name}
 use Rattle.tp_check.proofs.cause.output_flaw.Goals as goal
 use Rattle.tp_check.specs.Steps.{output_flaw}
 use Rattle.tp_check.specs.declared.verdict.EntryCause.TheVariants.{Addressee}
 use Rattle.tp_rules.proofs.Journals.{output_is}
-use Rattle.tp_rules.specs.Journal.{output_at}
 
 pub returns-in_default : goal.returns-in_default
 returns-in_default c = ap (output_flaw c.args.actor) (c.in_default.ensures ∙ output_is c.args.earlier.now c.args.sender c.args.place)

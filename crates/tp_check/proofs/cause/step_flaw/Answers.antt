@@ -1,4 +1,4 @@
-use Rattle.std.proofs.Common.{◌≡◌, ◌<◌, None, Some, Bool, true, false, length, sym, subst, ◌∙◌, arith}
+use Rattle.std.proofs.Common.{◌≡◌, ◌<◌, None, true, false, length, sym, ◌∙◌, arith}
 use Rattle.std.specs.Prelude.{reverse}
 use Rattle.tp_check.proofs.Flaws.{allowed, able_there, message_cause, not_enabled}
 use Rattle.tp_check.proofs.cause.step_flaw.Goals as goal
