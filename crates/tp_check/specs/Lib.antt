@@ -1,3 +1,4 @@
 pub mod Causes
 pub mod Verdicts
 pub mod Steps
+pub mod Print

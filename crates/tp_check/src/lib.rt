@@ -4,9 +4,11 @@
 mod cause;
 mod checker;
 mod laws;
+mod printer;
 mod same;
 mod verdict;
 
 pub use checker::check;
 pub use laws::law_causes;
+pub use printer::print_verdict;
 pub use verdict::{EntryCause, Verdict};
