@@ -67,8 +67,7 @@ command_fits n i low high =
     let s = session_fits i in
     let r = mod-lt (i - 1) {m = 4} (omega arith) in
     let h = mod-lt (session i - 1) {m = 3} (omega arith) in
-    let few = ops_fit n i in
-    (
+    let few = ops_fit n i in (
       (((s.0, omega (arith, s.1)), (omega arith, omega (arith, low, high))), (omega arith, omega (arith, h)), few.0, few.1),
       s,
       home_known ((i - 1) % 4) r,

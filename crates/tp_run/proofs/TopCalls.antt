@@ -1,8 +1,7 @@
--- Lists of words, and an input that was read whole, for the top call.
-use Rattle.std.proofs.Common.{IfErr, ◌≡◌, ℕ, ◌+◌, ◌<◌, ◌≤◌, ◌⊎◌, inl, inr, List, [], ◌∷◌, sym, ◌∙◌, ap, subst, arith, length, get_or, take, min, map, Option, Some, None, Result, Ok, Err, IfOk, IfSome, OnOk}
+-- An input that was read whole, and what is due to a call, for the top call.
+use Rattle.std.proofs.Common.{IfErr, ◌≡◌, ℕ, ◌+◌, ◌≤◌, ◌⊎◌, inl, inr, List, refl, sym, ◌∙◌, ap, subst, arith, length, take, min, Option, Some, None, Result, Ok, Err, IfOk, IfSome, OnOk}
 use Rattle.std.proofs.lemmas.List.{take_all, length-take}
 use Rattle.tp_driver.specs.Driving.{IsDriven}
-use Rattle.tp_outside.specs.Causes.{Rose}
 use Rattle.tp_rules.proofs.InRange.{run_in_range}
 use Rattle.tp_laws.proofs.Legal.{run_legal}
 use Rattle.tp_rules.proofs.Journals.{run_is_free}
@@ -11,17 +10,13 @@ use Rattle.tp_rules.specs.Runs.{AreInRange}
 use Rattle.tp_rules.specs.declared.event.Entry.{Entry}
 use Rattle.tp_run.specs.Texts.{INPUT_MOST, IsTextOf, cause_of}
 use Rattle.tp_run.proofs.TextLaws.{front_cause, unrefused_text}
-use Rattle.tp_run.specs.TopCall.{IsFaultOf, IsOrMemory, IsRefusedFor, IsSaidBy}
+use Rattle.tp_run.specs.TopCall.{IsDue, IsInputFor, IsRefusal, IsRefusedFor, IsSaidBy}
+use Rattle.tp_run.specs.declared.call.Call.{Call}
+use Rattle.tp_run.specs.declared.call.Call.TheVariants.{Step, Gen, Load}
 use Rattle.tp_run.specs.declared.finished.Cause.{Cause}
 use Rattle.tp_run.specs.declared.finished.Cause.TheVariants.{Words, Script as ScriptFault, Input, Read, Write, Memory}
 use Rattle.tp_script.specs.Accepted.{IsAccepted}
 use Rattle.tp_script.specs.declared.script.Script.{Script}
-
--- a list of one item is that item
-pub one_item : {A : Type 0} (xs : List A) (x : A) → 1 ≤ length xs → length xs < 2 → x ≡ get_or xs 0 x → xs ≡ x ∷ []
-one_item [] x some few is = absurd (omega (arith, some))
-one_item (y ∷ []) x some few is = ap (λ z. z ∷ []) (sym is)
-one_item (y ∷ z ∷ ys) x some few is = absurd (omega (arith, few))
 
 -- what was taken of a text is the whole text where it is shorter than what might have been taken
 pub whole : (most : ℕ) (text bytes : List ℕ) → bytes ≡ take (most + 1) text → length bytes ≤ most → bytes ≡ text
@@ -67,13 +62,6 @@ unrefused_by_whole left bytes text (Err cause) same is none = tt
 unrefused_by_whole None bytes text (Ok script) same is none = tt
 unrefused_by_whole (Some all) bytes text (Ok script) same is none = sym (front_cause all text (same ∙ is)) ∙ none
 
--- a list of one word is this text where the word is
-pub one_word : {A : Type 0} (f : A → List ℕ) (xs : List A) (x : A) (text : List ℕ) (P : Type 0) → xs ≡ x ∷ [] →
-    (P → f x ≡ text) × (f x ≡ text → P) → (P → map f xs ≡ text ∷ []) × (map f xs ≡ text ∷ [] → P)
-one_word f xs x text P one both =
-    let mapped : map f xs ≡ f x ∷ [] = ap (map f) one in
-    (λ p. let word : f x ≡ text = both.0 p in cc, λ m. let word : f x ≡ text = cc in both.1 word)
-
 -- the messages of a run of the script that was kept have bytes
 pub kept_in_range : (kept : Option Script) (script : Script) (journal : List Entry) → kept ≡ Some script → IsAccepted script → IsDriven script journal
     → IfSome kept (λ _. AreInRange journal)
@@ -88,37 +76,42 @@ kept_laws (Some s) script journal e accepted driven =
     let same : script ≡ s = cc in
     subst (λ (of : Script). KeepsLaws of journal) same (run_legal script journal accepted driven.run)
 
--- with a script, where no count rose, all went well but for memory
-pub exact_with : (before now : ℕ) (cause : Option Cause) → (cause ≡ None) ⊎ (cause ≡ Some Write) ⊎ (cause ≡ Some Memory)
-    → IsFaultOf Write before now cause → ¬ Rose before now → IsOrMemory None cause
-exact_with before now cause (inl ok) fault still = inl ok
-exact_with before now cause (inr (inl write)) fault still = absurd (still (fault.rose write))
-exact_with before now cause (inr (inr memory)) fault still = inr memory
+-- what a text is refused for is due, but for a failed read and want of memory
+text_due : (left : Option (List ℕ)) (cause : Cause) → IsRefusedFor left cause → ¬ (Some cause ≡ Some Read)
+    → IsDue (Some Step) left (Some cause) ⊎ (Some cause ≡ Some Memory)
+text_due None (ScriptFault fault) refused read = inl tt
+text_due (Some text) (ScriptFault fault) refused read = inl (sym refused)
+text_due None (Input got limit) refused read = inl tt
+text_due (Some text) (Input got limit) refused read = inl (sym refused)
+text_due left Words refused read = absurd refused
+text_due left Write refused read = absurd refused
+text_due left Read refused read = absurd (read refl)
+text_due left Memory refused read = inr refl
 
--- a text that has no cause is run
-pub exact_read : (left : Option (List ℕ)) (text : List ℕ) (told : Option Cause) → IfSome left (λ all. cause_of all ≡ None) → left ≡ Some text
-    → IsOrMemory None told → IsOrMemory (cause_of text) told
-exact_read None text told none at run = absurd cc
-exact_read (Some all) text told none at run =
-    let same : all ≡ text = cc in
-    subst (λ cause. IsOrMemory cause told) (sym none ∙ ap cause_of same) run
+-- the cause of a refusal is due, but for a failed read and want of memory
+refusal_due : (call : Option Call) (left : Option (List ℕ)) (cause : Cause) → IsRefusal call left cause → ¬ (Some cause ≡ Some Read)
+    → IsDue call left (Some cause) ⊎ (Some cause ≡ Some Memory)
+refusal_due None left cause refused read = inl (ap (λ (x : Cause). Some x) refused)
+refusal_due (Some Step) left cause refused read = text_due left cause refused read
+refusal_due (Some (Gen n)) left cause refused read = inr (ap (λ (x : Cause). Some x) refused)
+refusal_due (Some (Load n)) left cause refused read = inr (ap (λ (x : Cause). Some x) refused)
 
--- what is refused where no read failed is refused for the text's own cause, but for memory
-pub exact_refused : (left : Option (List ℕ)) (text : List ℕ) (cause : Cause) (told : Option Cause) → told ≡ Some cause
-    → IsRefusedFor left cause → left ≡ Some text → ¬ (told ≡ Some Read) → IsOrMemory (cause_of text) told
-exact_refused None text cause told is refused at read = absurd cc
-exact_refused (Some all) text (ScriptFault fault) told is refused at read = let same : all ≡ text = cc in inl (is ∙ sym refused ∙ ap cause_of same)
-exact_refused (Some all) text (Input got limit) told is refused at read = let same : all ≡ text = cc in inl (is ∙ sym refused ∙ ap cause_of same)
-exact_refused (Some all) text Words told is refused at read = absurd refused
-exact_refused (Some all) text Write told is refused at read = absurd refused
-exact_refused (Some all) text Read told is refused at read = absurd (read is)
-exact_refused (Some all) text Memory told is refused at read = inr is
+pub exact_refused : (call : Option Call) (left : Option (List ℕ)) (cause : Cause) (told : Option Cause) → told ≡ Some cause
+    → IsRefusal call left cause → ¬ (told ≡ Some Read) → IsDue call left told ⊎ (told ≡ Some Memory)
+exact_refused call left cause told is refused read =
+    subst (λ (o : Option Cause). IsDue call left o ⊎ (o ≡ Some Memory)) (sym is)
+    (refusal_due call left cause refused (λ e. read (is ∙ e)))
 
--- the text of an accepted script is run
-pub complete : (text : List ℕ) (script : Script) (told : Option Cause) → length text ≤ INPUT_MOST → IsTextOf text script
-    → IsOrMemory (cause_of text) told → IsOrMemory None told
-complete text script told few is (inl own) = inl (own ∙ unrefused_text text script few is)
-complete text script told few is (inr memory) = inr memory
+-- an input that serves is not refused
+pub served_due : (call : Option Call) (left : Option (List ℕ)) (told : Option Cause) → IsInputFor call left
+    → IsDue call left told ⊎ (told ≡ Some Memory) → (told ≡ None) ⊎ (told ≡ Some Memory)
+served_due call left told input (inr memory) = inr memory
+served_due None left told input (inl due) = absurd input
+served_due (Some Step) left told input (inl due) =
+    let all = subst (λ (l : Option (List ℕ)). IsDue (Some Step) l told) input.told due in
+    inl (all ∙ unrefused_text input.text input.script input.short input.said)
+served_due (Some (Gen n)) left told input (inl due) = inl due
+served_due (Some (Load n)) left told input (inl due) = inl due
 
 pub same_cause : {a b : Cause} → Some a ≡ Some b → a ≡ b
 same_cause h = cc

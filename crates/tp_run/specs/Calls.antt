@@ -1,0 +1,38 @@
+-- What the words ask for.
+use Rattle.std.specs.Prelude.{ℕ, bytes_eq, codes, if◌then◌else◌, map, string_bytes, String, Bool, true, false, List, [], ◌∷◌, Option, Some, None, Result, Ok, Err}
+use Rattle.tp_run.specs.declared.call.Call.{Call}
+use Rattle.tp_run.specs.declared.call.Call.TheVariants.{Step, Gen, Load}
+use Rattle.tp_text.specs.Numbers.{number_of}
+use Rattle.tp_text.specs.declared.numbers.NumberFault.{NumberFault}
+
+-- a call for a number
+abbrev pub call_for : List ℕ → ℕ → Option Call
+call_for word n = if bytes_eq word (codes "gen") then Some (Gen n) else (if bytes_eq word (codes "load") then Some (Load n) else None)
+
+abbrev pub numbered_call : List ℕ → Result ℕ NumberFault → Option Call
+numbered_call word (Ok n) = call_for word n
+numbered_call word (Err fault) = None
+
+-- `step`, `gen N` and `load N`, and nothing else
+abbrev pub call_in : List (List ℕ) → Option Call
+call_in (word ∷ []) = if bytes_eq word (codes "step") then Some Step else None
+call_in (word ∷ n ∷ []) = numbered_call word (number_of 4294967295 n)
+call_in _ = None
+
+-- the call that the words are, if they are served
+unfoldable pub call_of : {Z : Type 0} → List (String Z) → Option Call
+call_of words = call_in (map string_bytes words)
+
+-- whether the input is read
+abbrev pub reads : Option Call → Bool
+reads None = false
+reads (Some Step) = true
+reads (Some (Gen n)) = false
+reads (Some (Load n)) = false
+
+-- whether a script is run
+abbrev pub runs : Option Call → Bool
+runs None = false
+runs (Some Step) = true
+runs (Some (Gen n)) = false
+runs (Some (Load n)) = true
