@@ -2,7 +2,7 @@
 use Rattle.std.proofs.Common.{◌≡◌, ℕ, true, false, List, [], ◌∷◌, filter, refl}
 use Rattle.tp_histories.proofs.Words.{id, pair}
 use Rattle.tp_topology.specs.Ballots.{owner, next_ballot}
-use Rattle.tp_topology.specs.Counting.{up_to}
+use Rattle.tp_topology.specs.Counting.{all_up_to, up_to}
 use Rattle.tp_topology.specs.Shape.{Shape, in_ring}
 use Rattle.tp_topology.specs.Stability.{Telling, is_counted, is_stable}
 
@@ -46,6 +46,22 @@ late = record { rank = 1; lo = 0; hi = 2; attached = [] } ∷ record { rank = 1;
 
 late_counts : is_counted late [] 1 5 ≡ true
 late_counts = refl
+
+-- rank 1 told these numbers, all of them detached
+abbrev told_past : ℕ → ℕ → Telling
+told_past lo hi = record { rank = 1; lo = lo; hi = hi; attached = [] }
+
+-- 5 and 6 are missing: the front is 4
+abbrev with_gap : List Telling
+with_gap = told_past 0 3 ∷ told_past 6 8 ∷ told_past 3 4 ∷ []
+
+front_at_gap : (all_up_to (is_counted with_gap [] 1) 4 ≡ true) × (is_counted with_gap [] 1 5 ≡ false)
+front_at_gap = (refl, refl)
+
+-- they come, with one number more on each side: the front is 8
+front_past_gap : (all_up_to (is_counted (told_past 2 6 ∷ with_gap) [] 1) 8 ≡ true)
+    × (is_counted (told_past 2 6 ∷ with_gap) [] 1 9 ≡ false)
+front_past_gap = (refl, refl)
 
 -- a promise to a command counts once it is committed
 abbrev attached : List Telling
