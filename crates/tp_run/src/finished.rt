@@ -5,8 +5,8 @@ use thiserror::Error;
 use tp_journal::Journal;
 use tp_script::{Script, ScriptFault};
 
-/// What the top call ended with. `script` is the script that was read, `journal` the run that was
-/// kept, empty where none was. `cause` is there where the status isn't 0.
+/// What the top call ended with. `script` is the script that was read or generated, `journal` the
+/// run that was kept, empty where none was. `cause` is there where the status isn't 0.
 #[derive(Debug, Drop)]
 pub struct Finished {
     pub status: u8,
