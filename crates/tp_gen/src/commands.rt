@@ -4,7 +4,7 @@ ghost use Rattle.tp_gen.specs.Generator.{command, home, letter, ops, place, valu
 ghost use Rattle.tp_topology.specs.Counting.{up_to};
 
 use std::alloc::Global;
-use tp_base::{Bytes, CommandId, NoMemory, Rank, SessionId};
+use tp_base::{Bytes, CommandId, NoMemory, Rank, Sequence, SessionId};
 use tp_ops::{Command, Op, Ops};
 use tp_script::Commands;
 
@@ -51,7 +51,7 @@ fn ops(alloc: Global, n: u32, i: u8) -> Result<Ops, NoMemory>
 {
     let x = ((u64::from(n) + 7 * u64::from(i)) % 16) as u8;
     let key = letter(alloc, x)?;
-    let mut ops = Ops::new(alloc);
+    let mut ops = Sequence::new(alloc);
     match i % 5 {
         1 => ops.add(Op::Put {
             key,
@@ -74,7 +74,7 @@ fn ops(alloc: Global, n: u32, i: u8) -> Result<Ops, NoMemory>
             })?
         }
     }
-    Ok(ops)
+    Ops::new(alloc, ops)
 }
 
 fn letter(alloc: Global, x: u8) -> Result<Bytes, NoMemory>
