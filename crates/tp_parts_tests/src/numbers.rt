@@ -78,9 +78,9 @@ fn the_third_vote_decides(rt: HostRuntime) -> Result<(), Fail> {
     let mut proposer = Proposer::new(&topology);
     proposer.attempt(6);
     proposer.put(6, Stamp(3));
-    assert!(rt; !proposer.vote(Rank(1), 6) && !proposer.vote(Rank(1), 6));
-    assert!(rt; !proposer.vote(Rank(2), 7) && !proposer.vote(Rank(4), 6));
-    assert!(rt; proposer.vote(Rank(3), 6));
+    assert!(rt; proposer.vote(Rank(1), 6).is_none() && proposer.vote(Rank(1), 6).is_none());
+    assert!(rt; proposer.vote(Rank(2), 7).is_none() && proposer.vote(Rank(4), 6).is_none());
+    assert_eq!(rt; proposer.vote(Rank(3), 6), Some(Stamp(3)));
     Ok(())
 }
 
