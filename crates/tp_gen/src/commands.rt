@@ -1,6 +1,6 @@
-ghost use Rattle.std.specs.Prelude.{◌≡◌, ◌≤◌, ◌+◌, [], ◌∷◌, map, IfOk};
+ghost use Rattle.std.specs.Prelude.{◌≡◌, ◌≤◌, map, IfOk};
 ghost use Rattle.tp_base.specs.Limits.{IsFrom};
-ghost use Rattle.tp_gen.specs.Generator.{command, home, letter, ops, place, value};
+ghost use Rattle.tp_gen.specs.Generator.{command, home, letter, ops, value};
 ghost use Rattle.tp_topology.specs.Counting.{up_to};
 
 use std::alloc::Global;
