@@ -16,17 +16,15 @@ use Rattle.tp_rules.specs.declared.event.Entry.{Entry}
 use Rattle.tp_rules.specs.declared.event.Event.{Event}
 use Rattle.tp_rules.specs.declared.event.Event.TheVariants.{Deliver, Dropped, Inner}
 use Rattle.tp_rules.specs.declared.event.Inner.TheVariants.{Submit, Recover, Announce, Declare, Execute, Crash}
-use Rattle.tp_script.specs.Kinds.{actor_word, id_word}
-use Rattle.tp_script.proofs.Kinded.{same_bytes}
-use Rattle.tp_script.proofs.OpsWritten.{plain_by}
-use Rattle.tp_text.specs.Rows.{no_word as no_word_of}
+use Rattle.tp_text.specs.Names.{actor_word, id_word}
+use Rattle.tp_text.specs.Rows.{no_more}
 use Rattle.tp_text.specs.Steps.{◌>>=◌}
 use Rattle.tp_text.proofs.Joined.{IsPlain}
-use Rattle.tp_text.proofs.Plain.{decimal_plain}
-use Rattle.tp_text.proofs.Rowed.{row_again, row_plain}
+use Rattle.tp_text.proofs.Plain.{decimal_plain, plain_by, same_bytes}
+use Rattle.tp_text.proofs.Rowed.{none_is, row_again, row_plain}
 use Rattle.tp_text.proofs.Stepped.{bind_ok, chosen, ok_is}
 use Rattle.tp_entry.specs.Kinds.{IsSaid, kinds}
-use Rattle.tp_entry.proofs.Worded.{IsKind, actor_written, laws, none_is, row_is}
+use Rattle.tp_entry.proofs.Worded.{IsKind, actor_written, laws, row_is}
 
 abbrev Words : Type 0
 Words = List (List ℕ)
@@ -101,7 +99,7 @@ at_none : (word name : List ℕ) (words : Words) (event made : Event) → event_
     → bytes_eq word name ≡ true → (no_word words >>= λ _. Ok made) ≡ Ok event → Says (word ∷ words) event
 at_none word name words event made text fits same e =
     let a = bind_ok (no_word words) (λ _. Ok made) event e in
-    subst (λ (v : Event). Says (word ∷ words) v) (ok_is JournalCause made event a.2) (named word name words [] same (none_is words a.0 a.1) ∙ sym text, fits)
+    subst (λ (v : Event). Says (word ∷ words) v) (ok_is JournalCause made event a.2) (named word name words [] same (none_is Word words a.0 a.1) ∙ sym text, fits)
 
 abbrev from_crash : List ℕ → Words → Answer
 from_crash word words = cond (bytes_eq word (codes "crash")) (no_word words >>= λ _. Ok (Inner Crash)) (Err Word)
@@ -179,7 +177,7 @@ begun_is [] event e = let wrong : ⊥ = cc in absurd wrong
 begun_is (word ∷ words) event e = event_is word words event e
 
 event_again : (event : Event) → IsEvent event → event_begun (event_words event) ≡ Ok event
-unfolding event_begun event_at no_word_of
+unfolding event_begun event_at no_more
 event_again (Deliver m n) fits = ap (λ (r : Result (ℕ × ℕ) JournalCause). let z : Answer = r >>= λ at. Ok (Deliver at.0 at.1) in z) (places_again m n fits.0 fits.1)
 event_again (Dropped m n) fits = ap (λ (r : Result (ℕ × ℕ) JournalCause). let z : Answer = r >>= λ at. Ok (Dropped at.0 at.1) in z) (places_again m n fits.0 fits.1)
 event_again (Inner (Submit n)) fits = ap (λ (r : Result ℕ JournalCause). let z : Answer = r >>= λ k. Ok (Inner (Submit k)) in z) (number_again' n fits)

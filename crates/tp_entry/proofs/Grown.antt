@@ -8,17 +8,21 @@ use Rattle.tp_base.proofs.Each.{each_append, each_left, each_push, each_right}
 use Rattle.tp_entry.specs.Journals.{IsEntry, IsJournal}
 use Rattle.tp_entry.specs.Kinds.{message, no_word, row}
 use Rattle.tp_entry.specs.Meaning.{all_of, begun, entry_at, line_of, output_at, with_entry, with_output}
-use Rattle.tp_entry.specs.Print.{body, end_words, entry_lines, entry_words, output_words}
+use Rattle.tp_entry.specs.Print.{body, entry_lines, entry_words, output_words}
 use Rattle.tp_entry.specs.declared.draft.Draft.{Draft}
 use Rattle.tp_entry.specs.declared.fault.JournalCause.{JournalCause}
+use Rattle.tp_entry.specs.declared.fault.JournalCause.TheVariants.{Word}
 use Rattle.tp_rules.specs.declared.event.Entry.{Entry}
-use Rattle.tp_script.proofs.Kinded.{same_bytes}
+use Rattle.tp_text.specs.Framing.{end_words}
 use Rattle.tp_text.specs.Steps.{◌>>=◌}
+use Rattle.tp_text.proofs.LinesFound as framed
+use Rattle.tp_text.proofs.Plain.{same_bytes}
+use Rattle.tp_text.proofs.Rowed.{none_is}
 use Rattle.tp_text.proofs.Stepped.{bind_ok, chosen, ok_is}
 use Rattle.tp_wire.specs.Ranges.{IsInRange}
 use Rattle.tp_wire.specs.declared.message.Message.{Message}
 use Rattle.tp_entry.proofs.Evented.{entry_is}
-use Rattle.tp_entry.proofs.Worded.{none_is, row_is}
+use Rattle.tp_entry.proofs.Worded.{row_is}
 
 abbrev pub Words : Type 0
 Words = List (List ℕ)
@@ -53,14 +57,22 @@ output_grows es last m =
 -- ---- what a line did
 
 -- the entries so far grew by a line
-pub record Grows (before after : Draft) (words : Words) : Type 0 where
+record Grows (before after : Draft) (words : Words) : Type 0 where
   pub journal : IsJournal (all_of after)
   pub text : body (all_of after) ≡ body (all_of before) ++ words ∷ []
 
+abbrev pub IsDraft : Draft → Type 0
+IsDraft d = IsJournal (all_of d)
+
+abbrev pub body_of : Draft → List Words
+body_of d = body (all_of d)
+
 -- a line that was read: it grew the entries so far, or it is `end`
-pub data Begun (d : Draft) (words : Words) (x : Bool × Draft) : Type 0 where
-  grew : (after : Draft) → (true, after) ≡ x → Grows d after words → Begun d words x
-  ended : (false, d) ≡ x → words ≡ end_words → Begun d words x
+abbrev pub Begun : Draft → Words → Bool × Draft → Type 0
+Begun d words x = framed.Begun IsDraft body_of end_words d words x
+
+grew_by : (d after : Draft) (words : Words) (x : Bool × Draft) → (true, after) ≡ x → Grows d after words → Begun d words x
+grew_by d after words x same grown = framed.grew after same grown.journal grown.text
 
 with_last : (d : Draft) (last : Entry) → d.last ≡ Some last → all_of d ≡ d.entries ++ last ∷ []
 with_last d last is = ap (λ (o : Option Entry). d.entries ++ option_to_list o) is
@@ -101,13 +113,13 @@ from_end d word words = cond (bytes_eq word (codes "end")) (no_word words >>= λ
 at_entry : (d : Draft) (word : List ℕ) (words : Words) (x : Bool × Draft) → IsJournal (all_of d) → from_entry d word words ≡ Ok x → Begun d (word ∷ words) x
 at_entry d word words x is e =
     let a = bind_ok (entry_at word words) (λ entry. Ok (true, with_entry d entry)) x e in
-    grew (with_entry d a.0) (ok_is JournalCause (true, with_entry d a.0) x a.2) (entry_said d word words a.0 is a.1)
+    grew_by d (with_entry d a.0) (word ∷ words) x (ok_is JournalCause (true, with_entry d a.0) x a.2) (entry_said d word words a.0 is a.1)
 
 at_end : (d : Draft) (word : List ℕ) (words : Words) (x : Bool × Draft) → IsJournal (all_of d) → from_end d word words ≡ Ok x → Begun d (word ∷ words) x
 at_end d word words x is e = elim (chosen (bytes_eq word (codes "end")) (no_word words >>= λ _. Ok (false, d)) (from_entry d word words) (Ok x) e) [
   | inl p ↦
       let a = bind_ok (no_word words) (λ _. Ok (false, d)) x p.1 in
-      ended (ok_is JournalCause (false, d) x a.2) (ap (λ (w : List ℕ). w ∷ words) (same_bytes word (codes "end") p.0) ∙ ap (λ (ws : Words). codes "end" ∷ ws) (none_is words a.0 a.1))
+      framed.ended (ok_is JournalCause (false, d) x a.2) (ap (λ (w : List ℕ). w ∷ words) (same_bytes word (codes "end") p.0) ∙ ap (λ (ws : Words). codes "end" ∷ ws) (none_is Word words a.0 a.1))
   | inr q ↦ at_entry d word words x is q.1
 ]
 
@@ -119,6 +131,6 @@ line_is d (word ∷ words) x is e = elim (chosen (bytes_eq word (codes ">")) (ou
       let a = bind_ok (output_at d words) (λ after. Ok (true, after)) x p.1 in
       let g = output_said d words a.0 is a.1 in
       let same : codes ">" ≡ word = sym (same_bytes word (codes ">") p.0) in
-      grew a.0 (ok_is JournalCause (true, a.0) x a.2) (subst (λ (w : List ℕ). Grows d a.0 (w ∷ words)) same g)
+      grew_by d a.0 (word ∷ words) x (ok_is JournalCause (true, a.0) x a.2) (subst (λ (w : List ℕ). Grows d a.0 (w ∷ words)) same g)
   | inr q ↦ at_end d word words x is q.1
 ]

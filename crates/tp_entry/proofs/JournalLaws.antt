@@ -1,57 +1,41 @@
 -- The laws of a journal's text, for the clauses of the function that reads it and of those that print it.
-use Rattle.std.proofs.Common.{◌≡◌, ℕ, ◌+◌, false, List, [], ◌∷◌, ◌++◌, length, Result, Ok, Err, sym, ap, ◌∙◌, arith, length-append}
-use Rattle.std.specs.List.{join_with_byte}
-use Rattle.std.specs.Prelude.{IfOk, OnOk}
-use Rattle.std.proofs.lemmas.List.{length-map}
+use Rattle.std.proofs.Common.{◌≡◌, ℕ, ◌+◌, false, List, [], ◌∷◌, ◌++◌, length, Result, sym, ap, ◌∙◌}
+use Rattle.std.specs.Prelude.{IfOk, OnOk, codes}
 use Rattle.tp_entry.specs.Journals.{IsJournal}
 use Rattle.tp_entry.specs.Meaning.{journal_at}
-use Rattle.tp_entry.specs.Print.{body, end_words, entry_lines, header_words, journal_lines, text_of}
-use Rattle.tp_entry.specs.Reading.{IsReadAs, Reads}
-use Rattle.tp_entry.specs.declared.fault.JournalError.{JournalError}
-use Rattle.tp_entry.specs.declared.fault.JournalError.TheVariants as errors
-use Rattle.tp_entry.specs.declared.fault.JournalFault.{JournalFault}
+use Rattle.tp_entry.specs.Print.{body, entry_lines, journal_lines, text_of}
+use Rattle.tp_entry.specs.declared.fault.JournalCause.{JournalCause}
 use Rattle.tp_rules.specs.declared.event.Entry.{Entry}
-use Rattle.tp_script.specs.Reading.{all_lines}
-use Rattle.tp_script.proofs.Found.{joined}
+use Rattle.tp_text.specs.Framing.{end_words, header_words}
 use Rattle.tp_text.specs.Lines.{Input, lines_of}
+use Rattle.tp_text.specs.Reading.{IsReadAs, Reads, all_lines}
 use Rattle.tp_text.specs.Writing.{Written, ended, with_lines, with_words}
-use Rattle.tp_text.proofs.Joined.{same_left, some_piece, text_taken}
+use Rattle.tp_text.specs.declared.fault.TextError.{TextError}
+use Rattle.tp_text.proofs.LinesAgain as framed
+use Rattle.tp_text.proofs.LinesAgain.{IsReader}
 use Rattle.tp_text.proofs.Spelled.{lines_written, with_lines-append}
-use Rattle.tp_text.proofs.Stepped.{ok_is}
 use Rattle.tp_entry.proofs.Found.{journal_found}
-use Rattle.tp_entry.proofs.Grown.{Words}
-use Rattle.tp_entry.proofs.TextAgain.{journal_again, text_again}
+use Rattle.tp_entry.proofs.TextAgain.{journal_again, journal_plain}
 
-pub is_found : (n : ℕ) (old new : List ℕ) (r : Result (List Entry) JournalError) → Reads (λ es. (es, lines_of new)) r (journal_at n (lines_of old)) → IfOk r (λ es. IsJournal es × (old ≡ text_of es ++ new))
+-- what is read from a first line with the number n is a journal, of which these are the lines
+laws : (n : ℕ) → IsReader (journal_at n) IsJournal journal_lines
+laws n = record { found = journal_found n; again = journal_again n; plain = journal_plain }
+
+pub is_found : (n : ℕ) (old new : List ℕ) (r : Result (List Entry) (TextError JournalCause)) → Reads (λ es. (es, lines_of new)) r (journal_at n (lines_of old)) → IfOk r (λ es. IsJournal es × (old ≡ text_of es ++ new))
 unfolding text_of
-is_found n old new (Ok es) read =
-    let found = journal_found n (lines_of old) (es, lines_of new) read in
-    (found.0, text_taken old new (journal_lines es) found.1)
-is_found n old new (Err e) read = tt
+is_found n old new r read = framed.is_found (journal_at n) IsJournal journal_lines (laws n) old new r read
 
-pub is_only : (n : ℕ) (old new : List ℕ) (r : Result (List Entry) JournalError) → Reads (λ es. (es, lines_of new)) r (journal_at n (lines_of old)) → (es : List Entry) (rest : List ℕ) → IsJournal es → old ≡ text_of es ++ rest → IsReadAs es rest new r
-is_only n old new r read es rest ok e = go r read
-  where
-    made : journal_at n (lines_of old) ≡ Ok (es, lines_of rest)
-    made = ap (journal_at n) (ap lines_of e ∙ text_again es rest ok) ∙ journal_again n es (lines_of rest) ok (some_piece 10 rest)
+pub is_only : (n : ℕ) (old new : List ℕ) (r : Result (List Entry) (TextError JournalCause)) → Reads (λ es. (es, lines_of new)) r (journal_at n (lines_of old)) → (es : List Entry) (rest : List ℕ) → IsJournal es → old ≡ text_of es ++ rest → IsReadAs es rest new r
+unfolding text_of
+is_only n old new r read es rest ok e = framed.is_only (journal_at n) IsJournal journal_lines (laws n) old new r read es rest ok e
 
-    go : (r : Result (List Entry) JournalError) → Reads (λ es. (es, lines_of new)) r (journal_at n (lines_of old)) → IsReadAs es rest new r
-    go (Ok v) read' =
-        let same : (es, lines_of rest) ≡ (v, lines_of new) = ok_is JournalFault (es, lines_of rest) (v, lines_of new) (sym made ∙ read') in
-        (sym (ap (λ (p : List Entry × Words). p.0) same), same_left new rest (sym (ap (λ (p : List Entry × Words). p.1) same)))
-    go (Err errors.NoMemory) read' = tt
-    go (Err (errors.Fault fault)) read' = let wrong = sym made ∙ read' in cc
-
-pub is_counted : (n : ℕ) (old new : Input) (r : Result (List Entry) JournalError) → Reads (λ es. (es, lines_of new.left)) r (journal_at n (lines_of old.left)) → OnOk r (all_lines new ≡ all_lines old) → IfOk r (λ es. new.count ≡ old.count + length (journal_lines es))
-is_counted n old new (Ok es) read all =
-    let found = journal_found n (lines_of old.left) (es, lines_of new.left) read in
-    omega (arith, all, ap length found.1, length-append (joined (journal_lines es)) (lines_of new.left), length-map (journal_lines es) (join_with_byte 32))
-is_counted n old new (Err e) read all = tt
+pub is_counted : (n : ℕ) (old new : Input) (r : Result (List Entry) (TextError JournalCause)) → Reads (λ es. (es, lines_of new.left)) r (journal_at n (lines_of old.left)) → OnOk r (all_lines new ≡ all_lines old) → IfOk r (λ es. new.count ≡ old.count + length (journal_lines es))
+is_counted n old new r read all = framed.is_counted (journal_at n) IsJournal journal_lines (laws n) old new r read all
 
 -- the writer behind each part of a journal's text
 pub record IsPrinted (es : List Entry) (t0 t1 t2 t3 : Written) : Type 0 where
   pub start : t0 ≡ record { bytes = []; begun = false }
-  pub header : t1 ≡ ended (with_words t0 header_words)
+  pub header : t1 ≡ ended (with_words t0 (header_words (codes "journal")))
   pub entries : t2 ≡ with_lines t1 (body es)
   pub end : t3 ≡ ended (with_words t2 end_words)
 

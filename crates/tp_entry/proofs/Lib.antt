@@ -1,4 +1,3 @@
-pub mod LinesRead
 pub mod Wired
 pub mod Worded
 pub mod Evented

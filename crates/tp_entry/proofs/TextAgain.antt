@@ -1,44 +1,44 @@
 -- The text of a journal is read as the journal, whatever stands behind it.
-use Rattle.std.proofs.Common.{◌≡◌, ℕ, ◌+◌, ◌<◌, ◌≤◌, ◌⊎◌, inl, inr, Bool, true, false, List, [], ◌∷◌, ◌++◌, length, map, Some, Result, Ok, Err, refl, sym, ap, subst, ◌∙◌, arith, append_assoc}
-use Rattle.std.specs.List.{join_with_byte}
+use Rattle.std.proofs.Common.{◌≡◌, ℕ, ◌+◌, ◌<◌, ◌⊎◌, inl, inr, Bool, true, false, List, [], ◌∷◌, ◌++◌, length, map, Some, Result, Ok, Err, refl, sym, ap, subst, ◌∙◌, arith, append_assoc}
 use Rattle.std.specs.Prelude.{codes}
 use Rattle.std.specs.Str.{bytes_eq}
 use Rattle.std.proofs.lemmas.List.{append-nil}
 use Rattle.tp_base.specs.Lists.{Each}
 use Rattle.tp_base.specs.declared.names.ActorName.{ActorName}
-use Rattle.tp_base.proofs.Each.{each_append, each_weaker}
+use Rattle.tp_base.proofs.Each.{each_append}
 use Rattle.tp_entry.specs.Journals.{IsEntry, IsJournal}
 use Rattle.tp_entry.specs.Kinds.{IsActorName, IsSaid, kinds, message, read_actor, read_site, dotted_at}
-use Rattle.tp_entry.specs.Meaning.{all_of, at_line, header_at, header_line, journal_at, line_of, lines_from, none_yet, one_line, output_at, with_entry}
-use Rattle.tp_entry.specs.Print.{body, end_words, entry_words, header_words, journal_lines, output_words, text_of}
+use Rattle.tp_entry.specs.Meaning.{all_of, causes, entries_from, journal_at, line_of, none_yet, output_at, with_entry}
+use Rattle.tp_entry.specs.Print.{body, entry_words, journal_lines, output_words}
 use Rattle.tp_entry.specs.declared.draft.Draft.{Draft}
 use Rattle.tp_entry.specs.declared.fault.JournalCause.{JournalCause}
-use Rattle.tp_entry.specs.declared.fault.JournalCause.TheVariants.{Header, Missing, Word}
-use Rattle.tp_entry.specs.declared.fault.JournalFault.{JournalFault}
+use Rattle.tp_entry.specs.declared.fault.JournalCause.TheVariants.{Missing, Word}
 use Rattle.tp_rules.specs.declared.event.Entry.{Entry}
-use Rattle.tp_script.specs.Kinds.{actor_word}
-use Rattle.tp_script.proofs.Found.{joined}
-use Rattle.tp_script.proofs.Kinded.{same_bytes}
-use Rattle.tp_script.proofs.OpsWritten.{plain_by}
-use Rattle.tp_text.specs.Lines.{halves, lines_of, words_of}
-use Rattle.tp_text.specs.Numbers.{number_of}
-use Rattle.tp_text.specs.Rows.{no_word}
-use Rattle.tp_text.specs.Steps.{◌>>=◌}
-use Rattle.tp_text.proofs.Joined.{IsPlain, lines_again, words_again}
+use Rattle.tp_text.specs.Framing.{end_words}
+use Rattle.tp_text.specs.Lines.{halves}
+use Rattle.tp_text.specs.Names.{actor_word}
+use Rattle.tp_text.specs.Rows.{no_more}
+use Rattle.tp_text.proofs.LinesAgain as again
+use Rattle.tp_text.proofs.LinesAgain.{IsLine, end_plain, header_again, header_plain, run_again, some_others}
+use Rattle.tp_text.proofs.LinesFound.{joined}
+use Rattle.tp_text.proofs.Plain.{plain_by, same_bytes}
 use Rattle.tp_text.proofs.Rowed.{row_again, row_plain}
 use Rattle.tp_wire.specs.Ranges.{IsInRange}
 use Rattle.tp_wire.specs.declared.message.Message.{Message}
 use Rattle.tp_entry.proofs.Evented.{entry_again, event_plain, quiet}
 use Rattle.tp_entry.proofs.Grown.{Words, with_message}
-use Rattle.tp_entry.proofs.LinesRead.{step, unread, with_end}
 use Rattle.tp_entry.proofs.Worded.{IsKind, actor_plain, actor_written, laws}
 
 -- ---- lines that are read one after the other
 
 -- from a draft, lines lead to a journal
-abbrev Runs : Draft → List Words → List Entry → Type 0
-Runs d [] es = all_of d ≡ es
-Runs d (words ∷ lines) es = (mid : Draft) × (line_of d words ≡ Ok (true, mid)) × Runs mid lines es
+record Runs (d : Draft) (lines : List Words) (es : List Entry) : Type 0 where
+  end : Draft
+  says : all_of end ≡ es
+  run : again.Runs line_of d lines end
+
+one_first : (d mid : Draft) (words : Words) (lines : List Words) (es : List Entry) → line_of d words ≡ Ok (true, mid) → Runs mid lines es → Runs d (words ∷ lines) es
+one_first d mid words lines es read rest = record { end = rest.end; says = rest.says; run = (mid, read, rest.run) }
 
 abbrev upto : List Entry → Entry → Draft
 upto es last = record { entries = es; last = Some last }
@@ -87,21 +87,18 @@ outputs_run es last (m ∷ ms) lines all fit run =
     let mid : Entry = with_message last m in
     let same : (last.outputs ++ m ∷ []) ++ ms ≡ last.outputs ++ m ∷ ms = append_assoc last.outputs (m ∷ []) ms in
     let rest : Runs (upto es (with_outputs mid ms)) lines all = subst (λ (os : List Message). Runs (upto es (record last { outputs = os })) lines all) (sym same) run in
-    (upto es mid, output_read es last m fit.0, outputs_run es mid ms lines all fit.1 rest)
+    one_first (upto es last) (upto es mid) (output_words m) (map output_words ms ++ lines) all (output_read es last m fit.0) (outputs_run es mid ms lines all fit.1 rest)
 
 entries_run : (d : Draft) (entries : List Entry) → IsJournal entries → Runs d (body entries) (all_of d ++ entries)
-entries_run d [] fit = sym (append-nil (all_of d))
+entries_run d [] fit = record { end = d; says = sym (append-nil (all_of d)); run = refl }
 entries_run d (entry ∷ entries) fit =
     let first : Entry = quiet entry.actor entry.event in
     let others : Runs (upto (all_of d) entry) (body entries) ((all_of d ++ entry ∷ []) ++ entries) = entries_run (upto (all_of d) entry) entries fit.1 in
     let same : (all_of d ++ entry ∷ []) ++ entries ≡ all_of d ++ entry ∷ entries = append_assoc (all_of d) (entry ∷ []) entries in
     let run : Runs (upto (all_of d) entry) (body entries) (all_of d ++ entry ∷ entries) = subst (λ (es : List Entry). Runs (upto (all_of d) entry) (body entries) es) same others in
-    (upto (all_of d) first, entry_read d entry fit.0, outputs_run (all_of d) first entry.outputs (body entries) (all_of d ++ entry ∷ entries) fit.0.outputs run)
+    one_first d (upto (all_of d) first) (entry_words entry) (map output_words entry.outputs ++ body entries) (all_of d ++ entry ∷ entries) (entry_read d entry fit.0) (outputs_run (all_of d) first entry.outputs (body entries) (all_of d ++ entry ∷ entries) fit.0.outputs run)
 
 -- ---- no spaces in the words of a line
-
-abbrev IsLine : Words → Type 0
-IsLine words = Each IsPlain words × (1 ≤ length words)
 
 outputs_plain : (ms : List Message) → Each IsInRange ms → Each IsLine (map output_words ms)
 outputs_plain [] fit = tt
@@ -114,59 +111,24 @@ body_plain (entry ∷ entries) fit = (
   each_append IsLine (map output_words entry.outputs) (body entries) (outputs_plain entry.outputs fit.0.outputs) (body_plain entries fit.1),
 )
 
-header_plain : IsLine header_words
-header_plain = ((plain_by (codes "journal") refl, (plain_by (codes "1") refl, tt)), omega arith)
-
-end_plain : IsLine end_words
-end_plain = ((plain_by (codes "end") refl, tt), omega arith)
-
-journal_plain : (entries : List Entry) → IsJournal entries → Each (Each IsPlain) (journal_lines entries)
+pub journal_plain : (entries : List Entry) → IsJournal entries → Each IsLine (journal_lines entries)
 journal_plain entries fit =
-    each_weaker IsLine (Each IsPlain) (λ words line. line.0) (journal_lines entries)
-    (header_plain, each_append IsLine (body entries) (end_words ∷ []) (body_plain entries fit) (end_plain, tt))
+    (header_plain (codes "journal") (plain_by (codes "journal") refl), each_append IsLine (body entries) (end_words ∷ []) (body_plain entries fit) (end_plain, tt))
 
 -- ---- the lines are read
 
-words_back : (words : Words) → IsLine words → words_of (join_with_byte 32 words) ≡ words
-words_back [] line = absurd (omega (arith, line.1))
-words_back (w ∷ words) line = words_again w words line.0
-
-one_again : (n : ℕ) (d : Draft) (words : Words) (lines : Words) → IsLine words → 0 < length lines → one_line n d (join_with_byte 32 words ∷ lines) ≡ at_line n (line_of d words)
-unfolding one_line
-one_again n d words lines line some = rw (with_end n Missing (join_with_byte 32 words) lines some, words_back words line) refl
-
 end_read : (d : Draft) → line_of d end_words ≡ Ok (false, d)
-unfolding line_of no_word
+unfolding line_of no_more
 end_read d = refl
 
-some_others : (lines : List Words) (rest : Words) → 0 < length (joined (lines ++ end_words ∷ []) ++ rest)
-some_others [] rest = omega arith
-some_others (words ∷ lines) rest = omega arith
-
-lines_read : (n : ℕ) (d : Draft) (es : List Entry) (lines : List Words) (rest : Words) → 0 < length rest → Runs d lines es → Each IsLine lines → lines_from n d (joined (lines ++ end_words ∷ []) ++ rest) ≡ Ok (es, rest)
-lines_read n d es [] rest some run plain =
-    let one : one_line n d (join_with_byte 32 end_words ∷ rest) ≡ Ok (false, d) = one_again n d end_words rest end_plain some ∙ ap (at_line n) (end_read d) in
-    step n d (join_with_byte 32 end_words) rest ∙ ap (λ (r : Result (Bool × Draft) JournalFault). r >>= λ x. unread x.0 (n + 1) x.1 rest) one ∙ ap (λ (z : List Entry). let r : Result (List Entry × Words) JournalFault = Ok (z, rest) in r) run
-lines_read n d es (words ∷ lines) rest some run plain =
-    let others : Words = joined (lines ++ end_words ∷ []) ++ rest in
-    let one : one_line n d (join_with_byte 32 words ∷ others) ≡ Ok (true, run.0) = one_again n d words others plain.0 (some_others lines rest) ∙ ap (at_line n) run.1 in
-    step n d (join_with_byte 32 words) others ∙ ap (λ (r : Result (Bool × Draft) JournalFault). r >>= λ x. unread x.0 (n + 1) x.1 others) one ∙ lines_read (n + 1) run.0 es lines rest some run.2 plain.1
-
-header_read : header_line header_words ≡ Ok tt
-unfolding header_line number_of
-header_read = refl
-
-header_again : (n : ℕ) (lines : Words) → 0 < length lines → header_at n (join_with_byte 32 header_words ∷ lines) ≡ Ok lines
-unfolding header_at
-header_again n lines some = rw (with_end n Header (join_with_byte 32 header_words) lines some, words_back header_words header_plain, header_read) refl
+entries_again : (n : ℕ) (es : List Entry) (rest : Words) → IsJournal es → 0 < length rest → entries_from n (joined (body es ++ end_words ∷ []) ++ rest) ≡ Ok (es, rest)
+unfolding entries_from
+entries_again n es rest ok some =
+    let run : Runs none_yet (body es) es = entries_run none_yet es ok in
+    rw (run_again Missing line_of end_words n none_yet run.end (body es) rest some end_plain (end_read run.end) run.run (body_plain es ok), run.says) refl
 
 pub journal_again : (n : ℕ) (es : List Entry) (rest : Words) → IsJournal es → 0 < length rest → journal_at n (joined (journal_lines es) ++ rest) ≡ Ok (es, rest)
 unfolding journal_at
 journal_again n es rest ok some =
     let others : Words = joined (body es ++ end_words ∷ []) ++ rest in
-    rw (header_again n others (some_others (body es) rest)) (lines_read (n + 1) none_yet es (body es) rest some (entries_run none_yet es ok) (body_plain es ok))
-
--- the pieces of a journal's text with something behind it
-pub text_again : (es : List Entry) (rest : List ℕ) → IsJournal es → lines_of (text_of es ++ rest) ≡ joined (journal_lines es) ++ lines_of rest
-unfolding text_of
-text_again es rest ok = lines_again (journal_lines es) rest (journal_plain es ok)
+    rw (header_again (codes "journal") causes n others (plain_by (codes "journal") refl) (some_others (body es) end_words rest)) (entries_again (n + 1) es rest ok some)

@@ -1,19 +1,18 @@
 -- The laws of each kind of word: what is read is written so, what is written is read, and no space stands in it.
-use Rattle.std.proofs.Common.{◌≡◌, ◌==◌, ℕ, ◌^◌, ◌<◌, ◌≤◌, inl, inr, cond, leb, ltb, List, [], ◌∷◌, ◌++◌, length, Option, Some, None, Result, Ok, Err, refl, ap, subst, ◌∙◌, arith}
+use Rattle.std.proofs.Common.{◌≡◌, ◌==◌, ℕ, ◌^◌, ◌<◌, ◌≤◌, inl, inr, cond, ltb, List, [], ◌∷◌, ◌++◌, length, Option, Some, None, Result, Ok, Err, refl, ap, subst, ◌∙◌, arith}
 use Rattle.hex.specs.Hex.{encode_lower}
 use Rattle.std.specs.Fmt.{decimal}
-use Rattle.std.proofs.lemmas.Bool.{eqb-true, leb-true, le-leb}
-use Rattle.tp_base.specs.Limits.{IsFrom}
+use Rattle.std.proofs.lemmas.Bool.{eqb-true}
 use Rattle.tp_base.specs.declared.names.ActorName.{ActorName}
 use Rattle.tp_base.specs.declared.names.ActorName.TheVariants.{Process, Executor, Session}
 use Rattle.tp_base.specs.declared.names.CommandId.{CommandId}
 use Rattle.tp_base.specs.declared.names.Site.{Site}
-use Rattle.tp_entry.specs.Kinds.{AllSaid, IsActorName, IsCommandName, IsPart, IsSaid, Kind, Said, actor, dotted_at, else_wire, id, kinds, message, message_word, most, most_part, no_word, number, number_at, part, parts, parts_at, read_actor, read_id, read_message, read_session, read_site, read_word, row, word_of}
+use Rattle.tp_entry.specs.Kinds.{AllSaid, IsActorName, IsCommandName, IsPart, IsSaid, Kind, Said, actor, dotted_at, else_wire, id, kinds, message, message_word, most, most_part, number, part, parts, parts_at, read_actor, read_id, read_message, read_session, read_site, read_word, row, word_of}
 use Rattle.tp_entry.specs.declared.fault.JournalCause.{JournalCause}
 use Rattle.tp_entry.specs.declared.fault.JournalCause.TheVariants.{Word, Number, Hex}
-use Rattle.tp_script.specs.Kinds.{actor_word, dotted, id_at, id_word, site_at, site_word}
 use Rattle.tp_text.specs.Hexadecimal.{hex_of}
 use Rattle.tp_text.specs.Lines.{halves}
+use Rattle.tp_text.specs.Names.{actor_word, dotted, id_at, id_word, site_at, site_word}
 use Rattle.tp_text.specs.Numbers.{number_of}
 use Rattle.tp_text.specs.Rows.{words_of_row}
 use Rattle.tp_text.specs.Steps.{◌>>=◌, else_cause, need}
@@ -23,7 +22,8 @@ use Rattle.tp_text.proofs.Halved.{decimal_apart, halves_again, halves_take}
 use Rattle.tp_text.proofs.Hexed.{hex_again, hex_takes}
 use Rattle.tp_text.proofs.Joined.{IsPlain}
 use Rattle.tp_text.proofs.Numerals.{number_again, number_takes}
-use Rattle.tp_text.proofs.Plain.{decimal_plain, hex_plain, plain_append}
+use Rattle.tp_text.proofs.Plain.{decimal_plain, dotted_plain, hex_plain}
+use Rattle.tp_text.proofs.Ranged.{number_read, number_written}
 use Rattle.tp_text.proofs.Rowed.{AreKinds, AreSaid, row_takes}
 use Rattle.tp_text.proofs.Stepped.{bind_ok, chosen, else_ok, need_ok, ok_is}
 use Rattle.tp_base.specs.Lists.{Each}
@@ -40,20 +40,6 @@ IsKind (number low high) = high < 2 ^ 64
 IsKind id = Unit {0}
 IsKind actor = Unit {0}
 IsKind message = Unit {0}
-
--- ---- numbers
-
-number_read : (low high : ℕ) (word : List ℕ) (n : ℕ) → high < 2 ^ 64 → number_at low high word ≡ Ok n → (word ≡ decimal n) × IsFrom low high n
-unfolding number_at
-number_read low high word n small e =
-    let a = bind_ok (else_cause Number (number_of high word)) (λ m. need (leb low m) Number >>= λ _. Ok m) n e in
-    let w = number_takes high word a.0 small (else_ok Number (number_of high word) a.0 a.1) in
-    let t = need_ok (leb low a.0) Number (Ok a.0) n a.2 in
-    subst (λ (m : ℕ). (word ≡ decimal m) × IsFrom low high m) (ok_is JournalCause a.0 n t.1) (w.0, (leb-true _ _ t.0, w.1))
-
-number_written : (low high n : ℕ) → high < 2 ^ 64 → IsFrom low high n → number_at low high (decimal n) ≡ Ok n
-unfolding number_at
-number_written low high n small range = rw (number_again high n small range.1, le-leb low n range.0) refl
 
 -- ---- two numbers with a point between them
 
@@ -87,9 +73,6 @@ unfolding dotted_at parts
 dotted_written first second m n small small' le le' =
     rw (halves_again 46 (decimal m) (decimal n) (decimal_apart m (omega arith)) (decimal_apart n (omega arith)), number_again first m small le, number_again second n small' le') refl
 
-dotted_plain : (m n : ℕ) → m ≤ most → n ≤ most → IsPlain (dotted m n)
-dotted_plain m n first second = plain_append (decimal m) (46 ∷ decimal n) (decimal_plain m (omega arith)) (omega arith, decimal_plain n (omega arith))
-
 -- ---- sites and identifiers
 
 abbrev IsSiteName : Site → Type 0
@@ -121,7 +104,7 @@ unfolding read_id
 id_written i fits = rw (dotted_written most_part most i.session.0 i.number (omega arith) (omega arith) fits.0 fits.1) refl
 
 id_plain : (i : CommandId) → IsCommandName i → IsPlain (id_word i)
-id_plain i fits = dotted_plain i.session.0 i.number (omega (arith, fits.0)) fits.1
+id_plain i fits = dotted_plain i.session.0 i.number (omega (arith, fits.0)) (omega (arith, fits.1))
 
 -- ---- actors
 
@@ -192,13 +175,13 @@ message_written m fits = rw (hex_again (bytes_of m) (wire_bytes m fits), some_by
 -- ---- all kinds
 
 kind_takes : (k : Kind) → IsKind k → (word : List ℕ) (said : Said k) → read_word k word ≡ Ok said → (word ≡ word_of k said) × IsSaid k said
-kind_takes (number low high) kind word said e = number_read low high word said kind e
+kind_takes (number low high) kind word said e = number_read Number low high word said kind e
 kind_takes id kind word said e = id_read word said e
 kind_takes actor kind word said e = actor_read word said e
 kind_takes message kind word said e = message_read word said e
 
 kind_again : (k : Kind) → IsKind k → (said : Said k) → IsSaid k said → read_word k (word_of k said) ≡ Ok said
-kind_again (number low high) kind said fits = number_written low high said kind fits
+kind_again (number low high) kind said fits = number_written Number low high said kind fits
 kind_again id kind said fits = id_written said fits
 kind_again actor kind said fits = actor_written said fits
 kind_again message kind said fits = message_written said fits
@@ -215,6 +198,3 @@ laws = record { takes = kind_takes; again = kind_again; plain = kind_plain }
 -- what a row's words are
 pub row_is : (ks : List Kind) → Each IsKind ks → (words : List (List ℕ)) (said : AllSaid ks) → row ks words ≡ Ok said → (words ≡ words_of_row kinds ks said) × AreSaid {Said = Said} IsSaid ks said
 row_is ks fit words said e = row_takes kinds IsKind IsSaid laws ks fit words said e
-
-pub none_is : (words : List (List ℕ)) (u : Unit {0}) → no_word words ≡ Ok u → words ≡ []
-none_is words u e = (row_is [] tt words u e).0

@@ -2,7 +2,7 @@
 -- of it says, what can be said, the one word that says it, and what a word says or else its fault.
 use Rattle.hex.specs.Hex.{encode_lower}
 use Rattle.std.specs.Fmt.{decimal}
-use Rattle.std.specs.Prelude.{ℕ, ◌≤◌, ◌==◌, nat_le, nat_lt, if◌then◌else◌, List, [], ◌∷◌, length, Option, Some, None, Result, Ok, Err}
+use Rattle.std.specs.Prelude.{ℕ, ◌≤◌, ◌==◌, nat_lt, if◌then◌else◌, List, [], ◌∷◌, length, Option, Some, None, Result, Ok, Err}
 use Rattle.tp_base.specs.Limits.{IsFrom}
 use Rattle.tp_base.specs.declared.names.ActorName.{ActorName}
 use Rattle.tp_base.specs.declared.names.ActorName.TheVariants.{Process, Executor, Session}
@@ -10,10 +10,10 @@ use Rattle.tp_base.specs.declared.names.CommandId.{CommandId}
 use Rattle.tp_base.specs.declared.names.Site.{Site}
 use Rattle.tp_entry.specs.declared.fault.JournalCause.{JournalCause}
 use Rattle.tp_entry.specs.declared.fault.JournalCause.TheVariants.{Word, Number, Hex, Wire}
-use Rattle.tp_script.specs.Kinds.{actor_word, id_at, id_word, site_at}
 use Rattle.tp_text.specs.Hexadecimal.{hex_of}
 use Rattle.tp_text.specs.Lines.{halves}
-use Rattle.tp_text.specs.Numbers.{number_of}
+use Rattle.tp_text.specs.Names.{actor_word, id_at, id_word, site_at}
+use Rattle.tp_text.specs.Numbers.{number_at, number_of}
 use Rattle.tp_text.specs.Rows as rows
 use Rattle.tp_text.specs.Steps.{◌>>=◌, ◌>>◌, else_cause, need}
 use Rattle.tp_text.specs.declared.numbers.NumberFault.{NumberFault}
@@ -86,12 +86,6 @@ word_of message m = message_word m
 
 -- ---- what a word says, or its fault
 
-unfoldable pub number_at : ℕ → ℕ → List ℕ → Result ℕ JournalCause
-number_at low high word = do
-  n ← else_cause Number (number_of high word)
-  need (nat_le low n) Number
-  Ok n
-
 -- a part that is no number spoils the word's form, also where the other part is too large
 abbrev pub part : Result ℕ NumberFault → Result ℕ JournalCause
 part (Ok n) = Ok n
@@ -148,7 +142,7 @@ read_message word = do
   else_wire (message_of bytes)
 
 abbrev pub read_word : (k : Kind) → List ℕ → Result (Said k) JournalCause
-read_word (number low high) word = number_at low high word
+read_word (number low high) word = number_at Number low high word
 read_word id word = read_id word
 read_word actor word = read_actor word
 read_word message word = read_message word

@@ -2,4 +2,3 @@ pub mod Journals
 pub mod Kinds
 pub mod Meaning
 pub mod Print
-pub mod Reading

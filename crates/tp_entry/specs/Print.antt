@@ -6,12 +6,10 @@ use Rattle.tp_rules.specs.declared.event.Entry.{Entry}
 use Rattle.tp_rules.specs.declared.event.Event.{Event}
 use Rattle.tp_rules.specs.declared.event.Event.TheVariants.{Deliver, Dropped, Inner}
 use Rattle.tp_rules.specs.declared.event.Inner.TheVariants.{Submit, Recover, Announce, Declare, Execute, Crash}
-use Rattle.tp_script.specs.Kinds.{actor_word, id_word}
+use Rattle.tp_text.specs.Framing.{end_words, header_words}
+use Rattle.tp_text.specs.Names.{actor_word, id_word}
 use Rattle.tp_text.specs.Writing.{lines_text}
 use Rattle.tp_wire.specs.declared.message.Message.{Message}
-
-abbrev pub header_words : List (List ℕ)
-header_words = codes "journal" ∷ codes "1" ∷ []
 
 abbrev pub event_words : Event → List (List ℕ)
 event_words (Deliver entry place) = codes "deliver" ∷ decimal entry ∷ decimal place ∷ []
@@ -38,11 +36,8 @@ abbrev pub body : List Entry → List (List (List ℕ))
 body [] = []
 body (entry ∷ entries) = entry_lines entry ++ body entries
 
-abbrev pub end_words : List (List ℕ)
-end_words = codes "end" ∷ []
-
 abbrev pub journal_lines : List Entry → List (List (List ℕ))
-journal_lines entries = header_words ∷ (body entries ++ end_words ∷ [])
+journal_lines entries = header_words (codes "journal") ∷ (body entries ++ end_words ∷ [])
 
 -- its bytes
 unfoldable pub text_of : List Entry → List ℕ

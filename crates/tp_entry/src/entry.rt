@@ -1,7 +1,7 @@
 ghost use Rattle.std.specs.Prelude.{◌≡◌, ◌≤◌, IfOk};
 ghost use Rattle.tp_entry.specs.Kinds.{most};
 ghost use Rattle.tp_entry.specs.Meaning.{entry_at, event_at, event_begun, line_of, one_id, one_number, output_at, two_places};
-ghost use Rattle.tp_entry.specs.Reading.{Gives};
+ghost use Rattle.tp_text.specs.Reading.{Gives};
 
 use crate::draft::{Draft, enter};
 use crate::fault::{JournalCause, Refusal};
@@ -9,7 +9,7 @@ use crate::words::{MOST, read_actor, take_end, take_id, take_message, take_numbe
 use std::alloc::Global;
 use tp_base::CommandId;
 use tp_rules::{Entry, Event, Inner, Outputs};
-use tp_text::Words;
+use tp_text::{LineReader, Words};
 
 // An entry and a place.
 #[tactic(auto, unfolding(crate::specs::Meaning::two_places))]
@@ -108,27 +108,27 @@ fn read_output(alloc: Global, draft: &mut Draft, words: &mut Words) -> Result<()
     }
 }
 
-/// A line behind the first. Whether more lines follow it.
-#[tactic(auto, unfolding(crate::specs::Meaning::line_of))]
-pub(crate) fn read_line(
-    alloc: Global,
-    draft: &mut Draft,
-    words: &mut Words,
-) -> Result<bool, Refusal>
-    ensures { Gives (λ more. (more, draft.new)) result (line_of draft.old words.old) }
-{
-    let Some(word) = words.next_word() else {
-        return Err(Refusal::Cause(JournalCause::Word));
-    };
-    if word == b">".as_slice() {
-        read_output(alloc, draft, words)?;
-        Ok(true)
-    } else if word == b"end".as_slice() {
-        take_end(words)?;
-        Ok(false)
-    } else {
-        let entry = read_entry(alloc, word, words)?;
-        enter(draft, entry)?;
-        Ok(true)
+/// The lines behind the first.
+impl LineReader<JournalCause> for Draft {
+    ghost line_of = { line_of };
+
+    ghost is_fit = { λ _. Unit {0} };
+
+    #[tactic(auto, unfolding(crate::specs::Meaning::line_of))]
+    fn read_line(&mut self, alloc: Global, words: &mut Words) -> Result<bool, Refusal> {
+        let Some(word) = words.next_word() else {
+            return Err(Refusal::Cause(JournalCause::Word));
+        };
+        if word == b">".as_slice() {
+            read_output(alloc, self, words)?;
+            Ok(true)
+        } else if word == b"end".as_slice() {
+            take_end(words)?;
+            Ok(false)
+        } else {
+            let entry = read_entry(alloc, word, words)?;
+            enter(self, entry)?;
+            Ok(true)
+        }
     }
 }

@@ -1,17 +1,6 @@
-ghost use Rattle.std.specs.Prelude.{◌≡◌};
-ghost use Rattle.tp_entry.specs.declared.fault.Refusal.TheVariants.{Memory};
-
 use thiserror::Error;
-use tp_base::NoMemory;
+use tp_text::{TextError, TextFault};
 use tp_wire::WireFault;
-
-/// The first faulty line of a journal's text, counted in the whole input, and its first fault.
-#[derive(Clone, Copy, Debug, PartialEq, Eq, Error)]
-#[error("line {line}: {cause}")]
-pub struct JournalFault {
-    pub line: u64,
-    pub cause: JournalCause,
-}
 
 /// Why a line is faulty.
 #[derive(Clone, Copy, Debug, PartialEq, Eq, Error)]
@@ -39,26 +28,11 @@ pub enum JournalCause {
     Wire(WireFault),
 }
 
+/// The first faulty line of a journal's text, counted in the whole input, and its first fault.
+pub type JournalFault = TextFault<JournalCause>;
+
 /// Why no journal was read.
-#[derive(Clone, Copy, Debug, PartialEq, Eq, Error)]
-pub enum JournalError {
-    #[error("{0}")]
-    Fault(JournalFault),
-    #[error("memory")]
-    NoMemory,
-}
+pub type JournalError = TextError<JournalCause>;
 
 // Why a part of a line was not read.
-#[derive(Clone, Copy, Debug, PartialEq, Eq)]
-pub(crate) enum Refusal {
-    Memory,
-    Cause(JournalCause),
-}
-
-impl From<NoMemory> for Refusal {
-    ghost from_gives = { λ _ e. e ≡ Memory };
-
-    fn from(_: NoMemory) -> Self {
-        Refusal::Memory
-    }
-}
+pub(crate) type Refusal = tp_text::Refusal<JournalCause>;

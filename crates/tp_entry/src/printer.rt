@@ -2,42 +2,16 @@ ghost use Rattle.std.specs.Fmt.{decimal};
 ghost use Rattle.std.specs.Prelude.{◌≡◌, ◌∷◌, [], map, IfOk, OnOk};
 ghost use Rattle.tp_base.specs.Lists.{Each};
 ghost use Rattle.tp_entry.specs.Journals.{IsEntry, IsJournal};
-ghost use Rattle.tp_entry.specs.Print.{body, end_words, entry_lines, entry_words, event_words, header_words, output_words, text_of};
-ghost use Rattle.tp_script.specs.Kinds.{actor_word, id_word};
-ghost use Rattle.tp_text.specs.Writing.{ended, with_lines, with_word, with_words};
+ghost use Rattle.tp_entry.specs.Print.{body, entry_lines, event_words, output_words, text_of};
+ghost use Rattle.tp_text.specs.Names.{id_word};
+ghost use Rattle.tp_text.specs.Writing.{ended, with_lines, with_words};
 ghost use Rattle.tp_wire.specs.Ranges.{IsInRange};
 
 use std::alloc::Global;
-use tp_base::{ActorName, Bytes, CommandId, NoMemory};
+use tp_base::{Bytes, CommandId, NoMemory};
 use tp_rules::{Entries, Entry, Event, Inner};
 use tp_text::Text;
 use tp_wire::{Message, encode};
-
-fn put_header(text: &mut Text) -> Result<(), NoMemory>
-    ensures { OnOk result (text.new ≡ ended (with_words text.old header_words)) }
-{
-    text.word(b"journal")?;
-    text.word(b"1")?;
-    text.end_line()
-}
-
-fn put_actor(text: &mut Text, actor: ActorName) -> Result<(), NoMemory>
-    ensures { OnOk result (text.new ≡ with_word text.old (actor_word actor)) }
-{
-    match actor {
-        ActorName::Process(site) => text.dotted(
-            b"p",
-            u64::from(site.partition.0),
-            u64::from(site.rank.0),
-        ),
-        ActorName::Executor(site) => text.dotted(
-            b"e",
-            u64::from(site.partition.0),
-            u64::from(site.rank.0),
-        ),
-        ActorName::Session(session) => text.marked(b"s", u64::from(session.0)),
-    }
-}
 
 fn put_place(text: &mut Text, name: &[u8], entry: u64, place: u64) -> Result<(), NoMemory>
     ensures { OnOk result (text.new ≡ with_words text.old (name.now ∷ decimal entry ∷ decimal place ∷ [])) }
@@ -51,7 +25,7 @@ fn put_id(text: &mut Text, name: &[u8], id: CommandId) -> Result<(), NoMemory>
     ensures { OnOk result (text.new ≡ with_words text.old (name.now ∷ id_word id ∷ [])) }
 {
     text.word(name)?;
-    text.dotted(b"", u64::from(id.session.0), u64::from(id.number))
+    text.id(id)
 }
 
 fn put_event(text: &mut Text, event: Event) -> Result<(), NoMemory>
@@ -96,7 +70,7 @@ fn put_entry(alloc: Global, text: &mut Text, entry: &Entry) -> Result<(), NoMemo
     requires { IsEntry entry.now }
     ensures { OnOk result (text.new ≡ with_lines text.old (entry_lines entry.now)) }
 {
-    put_actor(text, entry.actor)?;
+    text.actor(entry.actor)?;
     put_event(text, entry.event)?;
     text.end_line()?;
     put_outputs(alloc, text, entry.outputs.as_slice())
@@ -112,21 +86,14 @@ fn put_entries(alloc: Global, text: &mut Text, entries: &[Entry]) -> Result<(), 
     Ok(())
 }
 
-fn put_end(text: &mut Text) -> Result<(), NoMemory>
-    ensures { OnOk result (text.new ≡ ended (with_words text.old end_words)) }
-{
-    text.word(b"end")?;
-    text.end_line()
-}
-
 /// The one text that is read as the journal.
 pub fn print_journal(alloc: Global, entries: &Entries) -> Result<Bytes, NoMemory>
     requires { IsJournal entries.now }
     ensures { IfOk result (λ bytes. bytes ≡ text_of entries.now) }
 {
     let mut text = Text::new(alloc);
-    put_header(&mut text)?;
+    text.header(b"journal")?;
     put_entries(alloc, &mut text, entries.as_slice())?;
-    put_end(&mut text)?;
+    text.end()?;
     Ok(text.finish())
 }

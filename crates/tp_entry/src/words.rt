@@ -1,12 +1,12 @@
 ghost use Rattle.std.specs.Prelude.{◌≡◌, ◌≤◌, Ok, IfOk};
-ghost use Rattle.tp_entry.specs.Kinds.{dotted_at, id, message, no_word, number, number_at, parts, read_actor, read_id, read_message, read_session, read_site, else_wire, take_word};
+ghost use Rattle.tp_entry.specs.Kinds.{dotted_at, id, message, no_word, number, parts, read_actor, read_id, read_message, read_session, read_site, else_wire, take_word};
+ghost use Rattle.tp_text.specs.Reading.{Gives};
 ghost use Rattle.tp_wire.specs.Meaning.{message_of};
-ghost use Rattle.tp_entry.specs.Reading.{Gives};
 
 use crate::fault::{JournalCause, Refusal};
 use std::alloc::Global;
 use tp_base::{ActorName, CommandId, PartitionId, Rank, SessionId, Site};
-use tp_text::{HexFault, NumberFault, Words, halves, hex, number};
+use tp_text::{HexFault, NumberFault, Words, halves, hex, number, number_from};
 use tp_wire::{Message, WireError, decode};
 
 // The greatest partition, rank or session.
@@ -15,23 +15,6 @@ const MOST_PART: u64 = 255;
 /// The greatest number that is no entry and no place.
 pub(crate) const MOST: u64 = 4_294_967_295;
 
-#[tactic(auto, unfolding(crate::specs::Kinds::number_at))]
-fn read_number(word: &[u8], low: u64, high: u64) -> Result<u64, Refusal>
-    ensures read { Gives (λ n. n) result (number_at low high word.now) }
-    ensures within { IfOk result (λ n. n ≤ high) }
-{
-    match number(word, high) {
-        Ok(n) => {
-            if low <= n {
-                Ok(n)
-            } else {
-                Err(Refusal::Cause(JournalCause::Number))
-            }
-        }
-        Err(_) => Err(Refusal::Cause(JournalCause::Number)),
-    }
-}
-
 /// The next word, a number in a range.
 #[tactic(auto, unfolding(tp_text::specs::Rows::take_word))]
 pub(crate) fn take_number(words: &mut Words, low: u64, high: u64) -> Result<u64, Refusal>
@@ -39,20 +22,16 @@ pub(crate) fn take_number(words: &mut Words, low: u64, high: u64) -> Result<u64,
     ensures within { IfOk result (λ n. n ≤ high) }
 {
     match words.next_word() {
-        Some(word) => read_number(word, low, high),
+        Some(word) => number_from(word, low, high, JournalCause::Number),
         None => Err(Refusal::Cause(JournalCause::Word)),
     }
 }
 
 /// No further word.
-#[tactic(auto, unfolding(tp_text::specs::Rows::no_word))]
 pub(crate) fn take_end(words: &mut Words) -> Result<(), Refusal>
     ensures { Gives (λ _. tt) result (no_word words.old) }
 {
-    match words.next_word() {
-        Some(_) => Err(Refusal::Cause(JournalCause::Word)),
-        None => Ok(()),
-    }
+    tp_text::take_end(words, JournalCause::Word)
 }
 
 // A part that is no number spoils the word's form, also where the other part is too large.

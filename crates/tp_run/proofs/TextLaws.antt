@@ -4,18 +4,20 @@ use Rattle.std.proofs.lemmas.List.{length-take, take_all}
 use Rattle.tp_run.specs.declared.finished.Cause.TheVariants.{Script as Faulty, Input}
 use Rattle.tp_run.specs.Texts.{INPUT_MOST, IsTextOf, cause_of, cause_of_read, is_end, read_to_end, script_of}
 use Rattle.tp_script.proofs.Found.{script_found}
-use Rattle.tp_script.proofs.TextAgain.{script_again, text_again}
-use Rattle.tp_script.specs.Meaning.{fault_at, script_at}
+use Rattle.tp_script.proofs.ScriptLaws.{text_again}
+use Rattle.tp_script.specs.Meaning.{script_at}
 use Rattle.tp_script.specs.Print.{script_lines, text_of}
+use Rattle.tp_script.specs.declared.fault.ScriptCause.{ScriptCause}
 use Rattle.tp_script.specs.declared.fault.ScriptCause.TheVariants.{Word}
-use Rattle.tp_script.specs.declared.fault.ScriptFault.{ScriptFault}
 use Rattle.tp_script.specs.declared.script.Script.{Script}
 use Rattle.tp_text.proofs.Joined.{same_left, some_piece, text_taken}
 use Rattle.tp_text.proofs.Stepped.{bind_ok, ok_is, tested}
-use Rattle.tp_script.specs.Reading.{FailsAt}
-use Rattle.tp_script.specs.declared.fault.ScriptError.{ScriptError}
-use Rattle.tp_script.specs.declared.fault.ScriptError.TheVariants as errors
+use Rattle.tp_text.specs.Framing.{fault_at}
 use Rattle.tp_text.specs.Lines.{Input as Lines, end_fault, lines_of}
+use Rattle.tp_text.specs.Reading.{FailsAt}
+use Rattle.tp_text.specs.declared.fault.TextError.{TextError}
+use Rattle.tp_text.specs.declared.fault.TextError.TheVariants as errors
+use Rattle.tp_text.specs.declared.fault.TextFault.{TextFault}
 use Rattle.tp_text.specs.declared.lines.LineFault.TheVariants.{AtEnd, Unended}
 
 end_is : (lines : List (List ℕ)) → is_end lines ≡ true → lines ≡ [] ∷ []
@@ -35,7 +37,7 @@ unfolding script_of text_of
 text_is text s e =
     let read = bind_ok (script_at 1 (lines_of text)) read_to_end s e in
     let ended = tested (is_end read.0.1) (fault_at (length (script_lines read.0.0) + 1) Word) (Ok read.0.0) s read.2 in
-    let same : read.0.0 ≡ s = ok_is ScriptFault read.0.0 s ended.1 in
+    let same : read.0.0 ≡ s = ok_is (TextFault ScriptCause) read.0.0 s ended.1 in
     let found = script_found 1 (lines_of text) read.0 read.1 in
     let rest : read.0.1 ≡ [] ∷ [] = end_is read.0.1 ended.0 in
     let taken : text ≡ text_of read.0.0 ++ [] = text_taken text [] (script_lines read.0.0) (rw (← rest) found.1) in
@@ -46,8 +48,7 @@ pub read_again : (text : List ℕ) (s : Script) → IsTextOf text s → script_o
 unfolding script_of
 read_again text s is =
     let lines : lines_of text ≡ lines_of (text_of s ++ []) = ap lines_of (is.1 ∙ sym (append-nil (text_of s))) in
-    let read : script_at 1 (lines_of text) ≡ Ok (s, lines_of []) =
-    ap (script_at 1) (lines ∙ text_again s [] is.0) ∙ script_again 1 s (lines_of []) is.0 (some_piece 10 []) in
+    let read : script_at 1 (lines_of text) ≡ Ok (s, lines_of []) = ap (script_at 1) lines ∙ text_again 1 s [] is.0 in
     rw read refl
 
 more_is_no_end : (line : List ℕ) (lines : List (List ℕ)) → 0 < length lines → is_end (line ∷ lines) ≡ false
@@ -76,7 +77,7 @@ read_on text input x is e =
     let read : script_at 1 (lines_of text) ≡ Ok x = subst (λ i. script_at (i.count + 1) (lines_of i.left) ≡ Ok x) is e in
     rw read refl
 
-pub fails_on : (text : List ℕ) (input : Lines) (error : ScriptError) → input ≡ record { left = text; count = 0 }
+pub fails_on : (text : List ℕ) (input : Lines) (error : TextError ScriptCause) → input ≡ record { left = text; count = 0 }
     → FailsAt error (script_at (input.count + 1) (lines_of input.left)) → FailsAt error (script_of text)
 unfolding script_of
 fails_on text input errors.NoMemory is e = tt
@@ -85,7 +86,7 @@ fails_on text input (errors.Fault fault) is e =
     rw read refl
 
 -- the cause of a text that isn't too long
-pub short_cause : (text : List ℕ) (read : Result Script ScriptFault) → length text ≤ INPUT_MOST → script_of text ≡ read → cause_of text ≡ cause_of_read read
+pub short_cause : (text : List ℕ) (read : Result Script (TextFault ScriptCause)) → length text ≤ INPUT_MOST → script_of text ≡ read → cause_of text ≡ cause_of_read read
 unfolding cause_of
 short_cause text read few e =
     let short : nat_lt INPUT_MOST (length text) ≡ false = grind (arith, few) in
@@ -95,7 +96,7 @@ short_cause text read few e =
 pub unrefused_text : (text : List ℕ) (s : Script) → length text ≤ INPUT_MOST → IsTextOf text s → cause_of text ≡ None
 unrefused_text text s few is = short_cause text (Ok s) few (read_again text s is)
 
-pub faulty_cause : (text : List ℕ) (error : ScriptError) (fault : ScriptFault) → length text ≤ INPUT_MOST → error ≡ errors.Fault fault
+pub faulty_cause : (text : List ℕ) (error : TextError ScriptCause) (fault : TextFault ScriptCause) → length text ≤ INPUT_MOST → error ≡ errors.Fault fault
     → FailsAt error (script_of text) → cause_of text ≡ Some (Faulty fault)
 faulty_cause text error fault few is e = short_cause text (Err fault) few (subst (λ x. FailsAt x (script_of text)) is e)
 

@@ -3,13 +3,15 @@ use Rattle.std.specs.Prelude.{ℕ, ◌≡◌, ◌+◌, nat_lt, Bool, true, false
 use Rattle.tp_run.specs.declared.finished.Cause.{Cause}
 use Rattle.tp_run.specs.declared.finished.Cause.TheVariants.{Script as Faulty, Input}
 use Rattle.tp_script.specs.Accepted.{IsAccepted}
-use Rattle.tp_script.specs.Meaning.{fault_at, script_at}
+use Rattle.tp_script.specs.Meaning.{script_at}
 use Rattle.tp_script.specs.Print.{script_lines, text_of}
+use Rattle.tp_script.specs.declared.fault.ScriptCause.{ScriptCause}
 use Rattle.tp_script.specs.declared.fault.ScriptCause.TheVariants.{Word}
-use Rattle.tp_script.specs.declared.fault.ScriptFault.{ScriptFault}
 use Rattle.tp_script.specs.declared.script.Script.{Script}
+use Rattle.tp_text.specs.Framing.{fault_at}
 use Rattle.tp_text.specs.Lines.{lines_of}
 use Rattle.tp_text.specs.Steps.{◌>>=◌}
+use Rattle.tp_text.specs.declared.fault.TextFault.{TextFault}
 
 -- the most bytes that an input may have
 abbrev pub INPUT_MOST : ℕ
@@ -25,14 +27,14 @@ is_end ([] ∷ []) = true
 is_end _ = false
 
 -- what stands behind a script's `end` is Word at the next line
-abbrev pub read_to_end : Script × List (List ℕ) → Result Script ScriptFault
+abbrev pub read_to_end : Script × List (List ℕ) → Result Script (TextFault ScriptCause)
 read_to_end (script, lines) = if is_end lines then Ok script else Err (fault_at (length (script_lines script) + 1) Word)
 
 -- the script that a whole text says, or its first fault
-unfoldable pub script_of : List ℕ → Result Script ScriptFault
+unfoldable pub script_of : List ℕ → Result Script (TextFault ScriptCause)
 script_of text = script_at 1 (lines_of text) >>= read_to_end
 
-abbrev pub cause_of_read : Result Script ScriptFault → Option Cause
+abbrev pub cause_of_read : Result Script (TextFault ScriptCause) → Option Cause
 cause_of_read (Err fault) = Some (Faulty fault)
 cause_of_read (Ok script) = None
 

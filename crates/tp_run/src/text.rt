@@ -3,8 +3,8 @@ ghost use Rattle.tp_run.specs.Texts.{INPUT_MOST, IsTextOf, cause_of, is_end, rea
 ghost use Rattle.tp_run.specs.TopCall.{IsRefusedFor};
 ghost use Rattle.tp_script.specs.Accepted.{IsAccepted};
 ghost use Rattle.tp_script.specs.Print.{script_lines};
-ghost use Rattle.tp_script.specs.Reading.{Reads};
 ghost use Rattle.tp_text.specs.Lines.{lines_of};
+ghost use Rattle.tp_text.specs.Reading.{Reads};
 
 use crate::finished::Cause;
 use std::alloc::Global;

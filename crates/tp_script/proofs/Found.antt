@@ -1,33 +1,27 @@
 -- What was read as a script is its text: each line that was read is the next line of the text.
-use Rattle.std.proofs.Common.{◌≡◌, ◌==◌, ℕ, ◌+◌, ◌≤◌, inl, inr, Bool, true, false, cond, leb, List, [], ◌∷◌, ◌++◌, map, Result, Ok, Err, refl, sym, ap, subst, ◌∙◌, arith, append_assoc}
+use Rattle.std.proofs.Common.{◌≡◌, ℕ, ◌+◌, ◌≤◌, inl, inr, Bool, true, false, cond, leb, List, [], ◌∷◌, ◌++◌, Result, Ok, Err, refl, sym, ap, subst, ◌∙◌, arith}
 use Rattle.std.specs.List.{join_with_byte}
-use Rattle.std.specs.Fmt.{decimal}
 use Rattle.std.specs.Prelude.{codes}
 use Rattle.std.specs.Str.{bytes_eq}
-use Rattle.std.proofs.lemmas.Bool.{and_parts, eqb-true, leb-true}
-use Rattle.std.proofs.lemmas.Fmt.{decimal_digit}
-use Rattle.std.proofs.lemmas.List.{append-nil}
+use Rattle.std.proofs.lemmas.Bool.{and_parts, leb-true}
 use Rattle.tp_script.specs.Accepted.{IsAccepted}
 use Rattle.tp_script.specs.Grammar.{command_line, crash_line, drop_line, pick_line, recover_line, repeat_line, session_line, shape_line, with_plan}
-use Rattle.tp_script.specs.Kinds.{most, no_word}
-use Rattle.tp_script.specs.Meaning.{at_line, begun, ended_line, header_at, header_line, in_group, into_group, into_plan, line_of, lines_from, one_line, script_at, shape_at, shape_begun, shaped, stands, version}
-use Rattle.tp_script.specs.Print.{body, end_words, header_words, script_lines, shape_words}
+use Rattle.tp_script.specs.Kinds.{no_word}
+use Rattle.tp_script.specs.Meaning.{begun, causes, in_group, into_group, into_plan, line_of, script_at, script_from, shape_begun, shaped, stands}
+use Rattle.tp_script.specs.Print.{body, script_lines, shape_words}
 use Rattle.tp_script.specs.declared.draft.Draft.{Draft}
 use Rattle.tp_script.specs.declared.fault.ScriptCause.{ScriptCause}
-use Rattle.tp_script.specs.declared.fault.ScriptCause.TheVariants.{Header, Missing, Newer, Word}
-use Rattle.tp_script.specs.declared.fault.ScriptFault.{ScriptFault}
+use Rattle.tp_script.specs.declared.fault.ScriptCause.TheVariants.{Missing, Word}
 use Rattle.tp_script.specs.declared.script.PlanLine.{PlanLine}
 use Rattle.tp_script.specs.declared.script.Script.{Script}
 use Rattle.tp_script.proofs.Grown.{Grows, Words, command_grows, row_is, session_grows}
-use Rattle.tp_script.proofs.Kinded.{same_bytes}
-use Rattle.tp_script.proofs.LinesRead.{unread}
 use Rattle.tp_script.proofs.PlanGrown.{Says, crash_says, drop_says, line_grows, pick_grows, recover_says, repeat_says, shape_says}
-use Rattle.tp_text.specs.Lines.{words_of}
-use Rattle.tp_text.specs.Numbers.{number_of}
+use Rattle.tp_text.specs.Framing.{end_words, header_at, header_words, line_at, lines_from}
 use Rattle.tp_text.specs.Steps.{◌>>=◌}
-use Rattle.tp_text.specs.declared.numbers.NumberFault.{NumberFault}
-use Rattle.tp_text.proofs.Joined.{joined_words}
-use Rattle.tp_text.proofs.Numerals.{number_takes}
+use Rattle.tp_text.specs.declared.fault.TextFault.{TextFault}
+use Rattle.tp_text.proofs.LinesFound as framed
+use Rattle.tp_text.proofs.LinesFound.{header_found, joined, line_found, lines_found}
+use Rattle.tp_text.proofs.Plain.{same_bytes}
 use Rattle.tp_text.proofs.Stepped.{bind_ok, chosen, ok_is}
 use Rattle.tp_topology.specs.Shape.{IsShape, Shape as StoreShape}
 
@@ -161,100 +155,19 @@ line_is d (word ∷ words) x is e = begun_is d word words x is e
 
 -- ---- all lines
 
-at_ok : {A : Type 0} (n : ℕ) (r : Result A ScriptCause) (x : A) → at_line n r ≡ Ok x → r ≡ Ok x
-at_ok n (Ok y) x e = cc
-at_ok n (Err cause) x e = let wrong : ⊥ = cc in absurd wrong
+-- the shape is this one, and the lines so far are those of an accepted script
+abbrev IsDraftOf : StoreShape → Draft → Type 0
+IsDraftOf shape d = (d.script.topology ≡ shape) × IsDraft d
 
--- a line that was taken stands first
-ended_is : (n : ℕ) (cause : ScriptCause) (lines : Words) (x : List ℕ × Words) → ended_line n cause lines ≡ Ok x → lines ≡ x.0 ∷ x.1
-unfolding ended_line
-ended_is n cause [] x e = let wrong : ⊥ = cc in absurd wrong
-ended_is n cause (piece ∷ []) x e = let wrong : ⊥ = cc in absurd wrong
-ended_is n cause (line ∷ next ∷ lines) x e = ap (λ (p : List ℕ × Words). p.0 ∷ p.1) (ok_is ScriptFault (line, next ∷ lines) x e)
+abbrev body_of : Draft → List Words
+body_of d = body d.script
 
-one_is : (n : ℕ) (d : Draft) (line : List ℕ) (lines : Words) (x : Bool × Draft) → one_line n d (line ∷ lines) ≡ Ok x → line_of d (words_of line) ≡ Ok x
-unfolding one_line
-one_is n d line lines x e =
-    let a = bind_ok (ended_line n Missing (line ∷ lines)) (λ l. at_line n (line_of d (words_of l.0))) x e in
-    let same : line ≡ a.0.0 = let both = ended_is n Missing (line ∷ lines) a.0 a.1 in cc in
-    ap (λ (l : List ℕ). line_of d (words_of l)) same ∙ at_ok n (line_of d (words_of a.0.0)) x a.2
-
-abbrev pub joined : List Words → Words
-joined lines = map (join_with_byte 32) lines
-
--- the lines that were read, the last of them `end`
-record Read (d : Draft) (lines : Words) (x : Script × Words) : Type 0 where
-  shape : x.0.topology ≡ d.script.topology
-  accepted : IsAccepted x.0
-  read : List Words
-  stood : lines ≡ joined (read ++ end_words ∷ []) ++ x.1
-  text : body x.0 ≡ body d.script ++ read
-
-one_more : (d after : Draft) (line : List ℕ) (lines : Words) (x : Script × Words) → after.script.topology ≡ d.script.topology → body after.script ≡ body d.script ++ words_of line ∷ [] → Read after lines x → Read d (line ∷ lines) x
-one_more d after line lines x same grown rest = record {
-  shape = rest.shape ∙ same;
-  accepted = rest.accepted;
-  read = words_of line ∷ rest.read;
-  stood = ap (λ (l : List ℕ). l ∷ lines) (sym (joined_words line)) ∙ ap (λ (ls : Words). join_with_byte 32 (words_of line) ∷ ls) rest.stood;
-  text = rest.text ∙ ap (λ (b : List Words). b ++ rest.read) grown ∙ append_assoc (body d.script) (words_of line ∷ []) rest.read;
-}
-
-last_one : (d : Draft) (line : List ℕ) (lines : Words) → IsDraft d → words_of line ≡ end_words → Read d (line ∷ lines) (d.script, lines)
-last_one d line lines is e = record {
-  shape = refl;
-  accepted = is.accepted;
-  read = [];
-  stood = ap (λ (l : List ℕ). l ∷ lines) (sym (joined_words line) ∙ ap (join_with_byte 32) e);
-  text = sym (append-nil (body d.script));
-}
-
-lines_found : (n : ℕ) (d : Draft) (lines : Words) (x : Script × Words) → IsDraft d → lines_from n d lines ≡ Ok x → Read d lines x
-unfolding lines_from
-lines_found n d [] x is e = let wrong : ⊥ = cc in absurd wrong
-lines_found n d (line ∷ lines) x is e =
-    let a = bind_ok (one_line n d (line ∷ lines)) (λ more. unread more.0 (n + 1) more.1 lines) x e in
-    go a.0 (line_is d (words_of line) a.0 is (one_is n d line lines a.0 a.1)) a.2 (λ after. lines_found (n + 1) after lines x)
+line_grows_text : (shape : StoreShape) (d : Draft) (words : Words) (x : Bool × Draft) → IsDraftOf shape d → line_of d words ≡ Ok x → framed.Begun (IsDraftOf shape) body_of end_words d words x
+line_grows_text shape d words x is e = go (line_is d words x is.1 e)
   where
-    go : (more : Bool × Draft) → Begun d (words_of line) more → unread more.0 (n + 1) more.1 lines ≡ Ok x → ((after : Draft) → IsDraft after → lines_from (n + 1) after lines ≡ Ok x → Read after lines x) → Read d (line ∷ lines) x
-    go more (grew group script same grown empty) rest others =
-        let after : Draft = (in_group group script).1 in
-        let is-after : IsDraft after = record { accepted = grown.accepted; empty = empty } in
-        let more-lines : lines_from (n + 1) after lines ≡ Ok x = ap (λ (m : Bool × Draft). unread m.0 (n + 1) m.1 lines) same ∙ rest in
-        one_more d after line lines x grown.shape grown.text (others after is-after more-lines)
-    go more (ended same word) rest others =
-        let done : unread false (n + 1) d lines ≡ Ok x = ap (λ (m : Bool × Draft). unread m.0 (n + 1) m.1 lines) same ∙ rest in
-        subst (Read d (line ∷ lines)) (ok_is ScriptFault (d.script, lines) x done) (last_one d line lines is word)
-
--- ---- the first two lines
-
-abbrev passed : Unit {0} → Result (Unit {0}) ScriptCause
-passed u = Ok u
-
-no_version : (b : Bool) (u : Unit {0}) → cond b (Err Newer) (Err Header) ≡ passed u → ⊥
-no_version true u e = cc
-no_version false u e = cc
-
-pub one_text : decimal 1 ≡ codes "1"
-one_text = decimal_digit 1 (omega arith)
-
-version_is : (r : Result ℕ NumberFault) (u : Unit {0}) → version r ≡ Ok u → r ≡ Ok 1
-version_is (Ok n) u e = elim (chosen (n == 1) (Ok tt) (cond (leb 2 n) (Err Newer) (Err Header)) (Ok u) e) [
-  | inl p ↦ ap (λ (m : ℕ). Ok m) (eqb-true _ _ p.0)
-  | inr q ↦ let wrong : ⊥ = no_version (leb 2 n) u q.1 in absurd wrong
-]
-version_is (Err fault) u e = let wrong : ⊥ = cc in absurd wrong
-
-header_is : (words : Words) (u : Unit {0}) → header_line words ≡ Ok u → words ≡ header_words
-unfolding header_line
-header_is [] u e = let wrong : ⊥ = cc in absurd wrong
-header_is (name ∷ []) u e = let wrong : ⊥ = cc in absurd wrong
-header_is (name ∷ number ∷ []) u e = elim (chosen (bytes_eq name (codes "tempo")) (version (number_of most number)) (Err Header) (Ok u) e) [
-  | inl p ↦
-      let one = number_takes most number 1 (omega arith) (version_is (number_of most number) u p.1) in
-      ap (λ (w : List ℕ). w ∷ number ∷ []) (same_bytes name (codes "tempo") p.0) ∙ ap (λ (w : List ℕ). codes "tempo" ∷ w ∷ []) (one.0 ∙ one_text)
-  | inr z ↦ let wrong : ⊥ = cc in absurd wrong
-]
-header_is (name ∷ number ∷ other ∷ words) u e = let wrong : ⊥ = cc in absurd wrong
+    go : Begun d words x → framed.Begun (IsDraftOf shape) body_of end_words d words x
+    go (grew group script same grown empty) = framed.grew (in_group group script).1 same (grown.shape ∙ is.0, record { accepted = grown.accepted; empty = empty }) grown.text
+    go (ended same word) = framed.ended same word
 
 shape_begun_is : (words : Words) (shape : StoreShape) → shape_begun words ≡ Ok shape → (words ≡ shape_words shape) × IsShape shape
 unfolding shape_begun
@@ -266,37 +179,31 @@ shape_begun_is (word ∷ words) shape e = elim (chosen (bytes_eq word (codes "sh
   | inr z ↦ let wrong : ⊥ = cc in absurd wrong
 ]
 
-header_found : (n : ℕ) (lines behind : Words) → header_at n lines ≡ Ok behind → lines ≡ join_with_byte 32 header_words ∷ behind
-unfolding header_at
-header_found n lines behind e =
-    let a = bind_ok (ended_line n Header lines) (λ line. at_line n (header_line (words_of line.0)) >>= λ _. Ok line.1) behind e in
-    let b = bind_ok (at_line n (header_line (words_of a.0.0))) (λ _. Ok a.0.1) behind a.2 in
-    let words = header_is (words_of a.0.0) b.0 (at_ok n (header_line (words_of a.0.0)) b.0 b.1) in
-    ended_is n Header lines a.0 a.1 ∙ ap (λ (l : List ℕ). l ∷ a.0.1) (sym (joined_words a.0.0) ∙ ap (join_with_byte 32) words) ∙ ap (λ (ls : Words). join_with_byte 32 header_words ∷ ls) (ok_is ScriptFault a.0.1 behind b.2)
-
-shape_found : (n : ℕ) (lines : Words) (x : StoreShape × Words) → shape_at n lines ≡ Ok x → (lines ≡ join_with_byte 32 (shape_words x.0) ∷ x.1) × IsShape x.0
-unfolding shape_at
-shape_found n lines x e =
-    let a = bind_ok (ended_line n Missing lines) (λ line. at_line n (shape_begun (words_of line.0)) >>= λ shape. Ok (shape, line.1)) x e in
-    let b = bind_ok (at_line n (shape_begun (words_of a.0.0))) (λ shape. Ok (shape, a.0.1)) x a.2 in
-    let words = shape_begun_is (words_of a.0.0) b.0 (at_ok n (shape_begun (words_of a.0.0)) b.0 b.1) in
-    let text : lines ≡ join_with_byte 32 (shape_words b.0) ∷ a.0.1 = ended_is n Missing lines a.0 a.1 ∙ ap (λ (l : List ℕ). l ∷ a.0.1) (sym (joined_words a.0.0) ∙ ap (join_with_byte 32) words.0) in
-    subst (λ (y : StoreShape × Words). (lines ≡ join_with_byte 32 (shape_words y.0) ∷ y.1) × IsShape y.0) (ok_is ScriptFault (b.0, a.0.1) x b.2) (text, words.1)
-
 shaped_is : (shape : StoreShape) → IsShape shape → IsDraft (shaped shape)
 shaped_is shape valid = record {
   accepted = record { shape = valid; sessions = omega arith; homes = tt; count = omega arith; commands = tt; numbered = λ s. refl; lines = omega arith; plan = tt; doubles = tt; few_picks = omega arith; picks = tt };
   empty = (λ le. refl, λ le. refl, λ le. refl);
 }
 
+body_found : (n : ℕ) (shape : StoreShape) (lines : Words) (x : Script × Words) → IsShape shape → script_from n shape lines ≡ Ok x
+    → (x.0.topology ≡ shape) × IsAccepted x.0 × (lines ≡ joined (body x.0 ++ end_words ∷ []) ++ x.1)
+unfolding script_from
+body_found n shape lines x valid e =
+    let a = bind_ok (lines_from Missing line_of n (shaped shape) lines) (λ read. Ok (read.0.script, read.1)) x e in
+    let are = lines_found Missing line_of (IsDraftOf shape) body_of end_words (line_grows_text shape) n (shaped shape) lines a.0 (refl, shaped_is shape valid) a.1 in
+    let stood : lines ≡ joined (body a.0.0.script ++ end_words ∷ []) ++ a.0.1 = are.stood ∙ ap (λ (ls : List Words). joined (ls ++ end_words ∷ []) ++ a.0.1) (sym are.text) in
+    subst (λ (y : Script × Words). (y.0.topology ≡ shape) × IsAccepted y.0 × (lines ≡ joined (body y.0 ++ end_words ∷ []) ++ y.1)) (ok_is (TextFault ScriptCause) (a.0.0.script, a.0.1) x a.2)
+    (are.draft.0, are.draft.1.accepted, stood)
+
 -- what was read is an accepted script, and the lines are those of its text
 pub script_found : (n : ℕ) (lines : Words) (x : Script × Words) → script_at n lines ≡ Ok x → IsAccepted x.0 × (lines ≡ joined (script_lines x.0) ++ x.1)
 unfolding script_at
 script_found n lines x e =
-    let a = bind_ok (header_at n lines) (λ first. shape_at (n + 1) first >>= λ second. lines_from (n + 2) (shaped second.0) second.1) x e in
-    let b = bind_ok (shape_at (n + 1) a.0) (λ second. lines_from (n + 2) (shaped second.0) second.1) x a.2 in
-    let shape = shape_found (n + 1) a.0 b.0 b.1 in
-    let others = lines_found (n + 2) (shaped b.0.0) b.0.1 x (shaped_is b.0.0 shape.1) b.2 in
-    let end : b.0.1 ≡ joined (body x.0 ++ end_words ∷ []) ++ x.1 = others.stood ∙ ap (λ (ls : List Words). joined (ls ++ end_words ∷ []) ++ x.1) (sym others.text) in
-    let second : a.0 ≡ join_with_byte 32 (shape_words x.0.topology) ∷ (joined (body x.0 ++ end_words ∷ []) ++ x.1) = shape.0 ∙ ap (λ (s : StoreShape). join_with_byte 32 (shape_words s) ∷ b.0.1) (sym others.shape) ∙ ap (λ (ls : Words). join_with_byte 32 (shape_words x.0.topology) ∷ ls) end in
-    (others.accepted, header_found n lines a.0 a.1 ∙ ap (λ (ls : Words). join_with_byte 32 header_words ∷ ls) second)
+    let a = bind_ok (header_at (codes "tempo") causes n lines) (λ first. line_at (n + 1) Missing shape_begun first.1 >>= λ second. script_from (n + 2) second.0 second.1) x e in
+    let b = bind_ok (line_at (n + 1) Missing shape_begun a.0.1) (λ second. script_from (n + 2) second.0 second.1) x a.2 in
+    let taken = line_found (n + 1) Missing shape_begun a.0.1 b.0 b.1 in
+    let shape = shape_begun_is taken.words b.0.0 taken.says in
+    let others = body_found (n + 2) b.0.0 b.0.1 x shape.1 b.2 in
+    let words : taken.words ≡ shape_words x.0.topology = shape.0 ∙ ap shape_words (sym others.0) in
+    let second : a.0.1 ≡ join_with_byte 32 (shape_words x.0.topology) ∷ (joined (body x.0 ++ end_words ∷ []) ++ x.1) = taken.first ∙ ap (λ (ws : Words). join_with_byte 32 ws ∷ b.0.1) words ∙ ap (λ (ls : Words). join_with_byte 32 (shape_words x.0.topology) ∷ ls) others.2 in
+    (others.1, header_found (codes "tempo") causes n lines a.0 a.1 ∙ ap (λ (ls : Words). join_with_byte 32 (header_words (codes "tempo")) ∷ ls) second)

@@ -6,7 +6,6 @@ use Rattle.std.specs.Fmt.{decimal}
 use Rattle.std.specs.Prelude.{codes}
 use Rattle.std.specs.Str.{bytes_eq}
 use Rattle.std.proofs.lemmas.Bool.{and_parts, eqb-true, leb-true, le-leb, or_cases}
-use Rattle.std.proofs.lemmas.Slice.Eq.{bytes_eq-Decides}
 use Rattle.tp_base.specs.Limits.{IsFrom, IsId}
 use Rattle.tp_base.specs.Lists.{Each}
 use Rattle.tp_base.specs.Names.{same_id}
@@ -17,18 +16,20 @@ use Rattle.tp_base.specs.declared.names.Site.{Site}
 use Rattle.tp_ops.specs.Limits.{IsText, IsValue}
 use Rattle.tp_ops.specs.declared.command.Command.{Command}
 use Rattle.tp_script.specs.Accepted.{IsSiteOf}
-use Rattle.tp_script.specs.Kinds.{IsActorIn, IsSaid, Kind, Said, actor, actor_word, bytes_at, dotted, dotted_at, id, id_at, id_word, is_from, is_site, is_there, key, kinds, literal, most, number, number_at, numbers_at, read_actor, read_id, read_session, read_site, read_word, site, site_at, site_word, value, value_at, value_word, word_of}
+use Rattle.tp_script.specs.Kinds.{IsActorIn, IsSaid, Kind, Said, actor, bytes_at, dotted_at, id, is_from, is_site, is_there, key, kinds, literal, most, number, numbers_at, read_actor, read_id, read_session, read_site, read_word, site, value, value_at, value_word, word_of}
 use Rattle.tp_script.specs.declared.fault.ScriptCause.{ScriptCause}
 use Rattle.tp_script.specs.declared.fault.ScriptCause.TheVariants.{Word, Number, Shape, Key, Value, Session}
 use Rattle.tp_text.specs.Hexadecimal.{hex_of}
 use Rattle.tp_text.specs.Lines.{halves}
+use Rattle.tp_text.specs.Names.{actor_word, dotted, id_at, id_word, site_at, site_word}
 use Rattle.tp_text.specs.Numbers.{number_of}
 use Rattle.tp_text.specs.Steps.{◌>>=◌, else_cause, need}
 use Rattle.tp_text.proofs.Halved.{decimal_apart, halves_again, halves_take}
 use Rattle.tp_text.proofs.Hexed.{hex_again, hex_takes}
 use Rattle.tp_text.proofs.Joined.{IsPlain}
 use Rattle.tp_text.proofs.Numerals.{number_again, number_takes}
-use Rattle.tp_text.proofs.Plain.{decimal_plain, hex_plain, plain_append}
+use Rattle.tp_text.proofs.Plain.{bytes_same, decimal_plain, dotted_plain, hex_plain, same_bytes}
+use Rattle.tp_text.proofs.Ranged.{number_read, number_written}
 use Rattle.tp_text.proofs.Rowed.{AreKinds}
 use Rattle.tp_text.proofs.Stepped.{bind_ok, chosen, else_ok, need_ok, ok_is}
 use Rattle.tp_topology.specs.Shape.{IsShape, Shape as StoreShape}
@@ -42,12 +43,6 @@ IsKind value = Unit {0}
 IsKind (site shape) = IsShape shape
 IsKind (id commands) = Each (λ c. IsId c.id) commands
 IsKind (actor shape sessions) = IsShape shape × (sessions ≤ 16)
-
-pub same_bytes : (xs ys : List ℕ) → bytes_eq xs ys ≡ true → xs ≡ ys
-same_bytes xs ys e = (bytes_eq-Decides xs ys).0 e
-
-pub bytes_same : (xs : List ℕ) → bytes_eq xs xs ≡ true
-bytes_same xs = (bytes_eq-Decides xs xs).1 refl
 
 pub in_range : (low high n : ℕ) → is_from low high n ≡ true → IsFrom low high n
 in_range low high n e =
@@ -64,20 +59,6 @@ cases false = inr refl
 unit_step : (b : Bool) → (need b Word) ≡ (need b Word >>= λ _. Ok tt)
 unit_step true = refl
 unit_step false = refl
-
--- ---- numbers
-
-number_read : (low high : ℕ) (word : List ℕ) (n : ℕ) → high < 2 ^ 64 → number_at low high word ≡ Ok n → (word ≡ decimal n) × IsFrom low high n
-unfolding number_at
-number_read low high word n small e =
-    let a = bind_ok (else_cause Number (number_of high word)) (λ m. need (leb low m) Number >>= λ _. Ok m) n e in
-    let w = number_takes high word a.0 small (else_ok Number (number_of high word) a.0 a.1) in
-    let t = need_ok (leb low a.0) Number (Ok a.0) n a.2 in
-    subst (λ (m : ℕ). (word ≡ decimal m) × IsFrom low high m) (ok_is ScriptCause a.0 n t.1) (w.0, (leb-true _ _ t.0, w.1))
-
-number_written : (low high n : ℕ) → high < 2 ^ 64 → IsFrom low high n → number_at low high (decimal n) ≡ Ok n
-unfolding number_at
-number_written low high n small range = rw (number_again high n small range.1, le-leb low n range.0) refl
 
 -- ---- keys and values
 
@@ -141,9 +122,6 @@ unfolding dotted_at
 dotted_written m n first second =
     rw (halves_again 46 (decimal m) (decimal n) (decimal_apart m (omega arith)) (decimal_apart n (omega arith)), number_again most m (omega arith) first, number_again most n (omega arith) second) refl
 
-dotted_plain : (m n : ℕ) → m ≤ most → n ≤ most → IsPlain (dotted m n)
-dotted_plain m n first second = plain_append (decimal m) (46 ∷ decimal n) (decimal_plain m (omega arith)) (omega arith, decimal_plain n (omega arith))
-
 -- ---- sites
 
 site_read : (shape : StoreShape) (word : List ℕ) (s : Site) → read_site shape word ≡ Ok s → (word ≡ site_word s) × IsSiteOf shape s
@@ -165,7 +143,7 @@ site_written shape s valid fits =
     rw (dotted_written s.partition.0 s.rank.0 small.0 small.1, range_in 1 shape.partitions s.partition.0 fits.0, range_in 1 shape.replicas s.rank.0 fits.1) refl
 
 site_plain : (shape : StoreShape) (s : Site) → IsShape shape → IsSiteOf shape s → IsPlain (site_word s)
-site_plain shape s valid fits = let small = site_small shape s valid fits in dotted_plain s.partition.0 s.rank.0 small.0 small.1
+site_plain shape s valid fits = let small = site_small shape s valid fits in dotted_plain s.partition.0 s.rank.0 (omega (arith, small.0)) (omega (arith, small.1))
 
 -- ---- identifiers
 
@@ -240,7 +218,7 @@ actor_plain shape sessions (SessionOf s) valid few fits = (omega arith, decimal_
 -- ---- all kinds
 
 kind_takes : (k : Kind) → IsKind k → (word : List ℕ) (said : Said k) → read_word k word ≡ Ok said → (word ≡ word_of k said) × IsSaid k said
-kind_takes (number low high) kind word said e = number_read low high word said kind e
+kind_takes (number low high) kind word said e = number_read Number low high word said kind e
 kind_takes (literal text) kind word said e =
     let t = need_ok (bytes_eq word text) Word (Ok tt) said (sym (unit_step (bytes_eq word text)) ∙ e) in
     (same_bytes word text t.0, tt)
@@ -251,7 +229,7 @@ kind_takes (id commands) kind word said e = id_read commands word said e
 kind_takes (actor shape sessions) kind word said e = actor_read shape sessions word said e
 
 kind_again : (k : Kind) → IsKind k → (said : Said k) → IsSaid k said → read_word k (word_of k said) ≡ Ok said
-kind_again (number low high) kind said fits = number_written low high said kind fits
+kind_again (number low high) kind said fits = number_written Number low high said kind fits
 kind_again (literal text) kind said fits = rw (bytes_same text) refl
 kind_again key kind said fits = bytes_written Key 32 said fits
 kind_again value kind said fits = value_written said fits
@@ -269,7 +247,7 @@ kind_plain (literal text) kind said fits = kind
 kind_plain key kind said fits = hex_plain said fits.1
 kind_plain value kind said fits = value_plain said fits
 kind_plain (site shape) kind said fits = site_plain shape said kind fits
-kind_plain (id commands) kind said fits = let small = id_small commands said kind fits in dotted_plain said.session.0 said.number small.0 small.1
+kind_plain (id commands) kind said fits = let small = id_small commands said kind fits in dotted_plain said.session.0 said.number (omega (arith, small.0)) (omega (arith, small.1))
 kind_plain (actor shape sessions) kind said fits = actor_plain shape sessions said kind.0 kind.1 fits
 
 pub laws : AreKinds kinds IsKind IsSaid

@@ -1,5 +1,4 @@
 pub mod OpsRead
-pub mod LinesRead
 pub mod Kinded
 pub mod OpsWritten
 pub mod Grown

@@ -4,11 +4,11 @@ use Rattle.std.specs.Option.{option_map}
 use Rattle.std.proofs.lemmas.List.{append-nil, take_all}
 use Rattle.tp_ops.specs.declared.operation.Op.{Op}
 use Rattle.tp_script.specs.Grammar.{op_and_after, op_at, ops_and_count, ops_at, with_others}
-use Rattle.tp_script.specs.Reading.{Fails}
-use Rattle.tp_script.specs.declared.fault.Refusal.{Refusal}
-use Rattle.tp_script.specs.declared.fault.Refusal.TheVariants as refusals
 use Rattle.tp_script.specs.declared.fault.ScriptCause.{ScriptCause}
+use Rattle.tp_text.specs.Reading.{Fails}
 use Rattle.tp_text.specs.Steps.{◌>>=◌}
+use Rattle.tp_text.specs.declared.fault.Refusal.{Refusal}
+use Rattle.tp_text.specs.declared.fault.Refusal.TheVariants as refusals
 
 abbrev pair : List Op → ℕ → List Op × ℕ
 pair ops n = (ops, n)
@@ -72,7 +72,7 @@ goes_on kept n all old new op more total room one so_far =
     let next : counted kept n (ops_at (all - n) old) ≡ counted (take 16 (kept ++ op ∷ [])) (n + 1) (still more (all - n - 1) new) = ap (counted kept n) step ∙ after_one kept n op more (all - n - 1) new in
     rw (← fuel) (sym next ∙ so_far)
 
-pub ends : (e : Refusal) (kept : List Op) (n all : ℕ) (old : Words) (total : Result (List Op × ℕ) ScriptCause)
+pub ends : (e : Refusal ScriptCause) (kept : List Op) (n all : ℕ) (old : Words) (total : Result (List Op × ℕ) ScriptCause)
     → length old + n ≤ all → Fails e (op_and_after old) → counted kept n (ops_at (all - n) old) ≡ total → Fails e total
 ends refusals.Memory kept n all old total room one so_far = tt
 ends (refusals.Cause cause) kept n all old total room one so_far =

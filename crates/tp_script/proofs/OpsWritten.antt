@@ -1,11 +1,9 @@
 -- A command's operations: what is read is written so, and what is written is read.
-use Rattle.std.proofs.Common.{◌≡◌, ℕ, zero, suc, ◌≤◌, inl, inr, true, cond, ltb, List, [], ◌∷◌, ◌++◌, length, take, Option, Some, None, Ok, Err, refl, sym, ap, subst, ◌∙◌, arith, length-append}
+use Rattle.std.proofs.Common.{◌≡◌, ℕ, zero, suc, ◌≤◌, inl, inr, true, cond, List, [], ◌∷◌, ◌++◌, length, take, Option, Some, None, Ok, Err, refl, sym, ap, subst, ◌∙◌, arith, length-append}
 use Rattle.hex.specs.Hex.{encode_lower}
-use Rattle.std.specs.List.{list_all}
 use Rattle.std.specs.Option.{option_map}
-use Rattle.std.specs.Prelude.{codes, nat_lt}
+use Rattle.std.specs.Prelude.{codes}
 use Rattle.std.specs.Str.{bytes_eq}
-use Rattle.std.proofs.lemmas.Bool.{and_parts, ltb-true}
 use Rattle.std.proofs.lemmas.List.{take_all}
 use Rattle.tp_base.specs.Lists.{Each}
 use Rattle.tp_ops.specs.Limits.{IsKey, IsOp, IsValue}
@@ -16,10 +14,10 @@ use Rattle.tp_script.specs.Kinds.{IsSaid, key, kinds, take_word, value, value_wo
 use Rattle.tp_script.specs.Print.{more_words, op_words, ops_words}
 use Rattle.tp_script.specs.declared.fault.ScriptCause.{ScriptCause}
 use Rattle.tp_script.specs.declared.fault.ScriptCause.TheVariants.{Word}
-use Rattle.tp_script.proofs.Kinded.{IsKind, laws, same_bytes, value_plain}
+use Rattle.tp_script.proofs.Kinded.{IsKind, laws, value_plain}
 use Rattle.tp_text.specs.Steps.{◌>>=◌}
 use Rattle.tp_text.proofs.Joined.{IsPlain}
-use Rattle.tp_text.proofs.Plain.{hex_plain}
+use Rattle.tp_text.proofs.Plain.{hex_plain, plain_by, same_bytes}
 use Rattle.tp_text.proofs.Rowed.{taken, word_again}
 use Rattle.tp_text.proofs.Stepped.{bind_ok, chosen, ok_is}
 
@@ -203,12 +201,6 @@ ops_long [] = omega arith
 ops_long (op ∷ ops) = omega (arith, length-append (op_words op) (more_words ops), more_long ops, op_long op)
 
 -- ---- no spaces
-
-pub plain_by : (word : List ℕ) → list_all (λ b. nat_lt 32 b) word ≡ true → IsPlain word
-plain_by [] all = tt
-plain_by (b ∷ word) all =
-    let parts = and_parts (ltb 32 b) (list_all (λ b. nat_lt 32 b) word) all in
-    (ltb-true _ _ parts.0, plain_by word parts.1)
 
 pub plain_lines : (xs ys : Words) → Each IsPlain xs → Each IsPlain ys → Each IsPlain (xs ++ ys)
 plain_lines [] ys a b = b

@@ -23,9 +23,9 @@ use Rattle.tp_script.specs.declared.script.PlanLine.{PlanLine}
 use Rattle.tp_script.specs.declared.script.PlanLine.TheVariants.{Crash, Recover, Lose, Repeat, RepeatAll}
 use Rattle.tp_script.specs.declared.script.Script.{Script}
 use Rattle.tp_script.proofs.Grown.{Grows, Words, one_longer, row_is}
-use Rattle.tp_script.proofs.Kinded.{IsKind, in_range, same_bytes}
-use Rattle.tp_script.proofs.OpsWritten.{plain_by}
+use Rattle.tp_script.proofs.Kinded.{IsKind, in_range}
 use Rattle.tp_text.specs.Steps.{◌>>=◌, need}
+use Rattle.tp_text.proofs.Plain.{plain_by, same_bytes}
 use Rattle.tp_text.proofs.Stepped.{bind_ok, chosen, need_ok, ok_is}
 use Rattle.tp_topology.specs.Shape.{IsShape, Shape as StoreShape}
 

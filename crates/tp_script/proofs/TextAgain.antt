@@ -1,5 +1,5 @@
 -- The text of an accepted script is read as the script, whatever stands behind it.
-use Rattle.std.proofs.Common.{◌≡◌, ℕ, suc, ◌+◌, ◌<◌, ◌≤◌, Bool, false, List, [], ◌∷◌, ◌++◌, length, map, Result, Ok, refl, sym, ap, subst, ◌∙◌, arith, append_assoc}
+use Rattle.std.proofs.Common.{◌≡◌, ℕ, suc, ◌+◌, ◌<◌, ◌≤◌, false, List, [], ◌∷◌, ◌++◌, length, map, Ok, refl, sym, ap, subst, arith, append_assoc}
 use Rattle.std.specs.List.{join_with_byte}
 use Rattle.std.specs.Prelude.{codes}
 use Rattle.std.proofs.lemmas.List.{append-nil}
@@ -10,28 +10,25 @@ use Rattle.tp_base.proofs.Each.{each_append, each_weaker}
 use Rattle.tp_ops.specs.declared.command.Command.{Command}
 use Rattle.tp_script.specs.Accepted.{AreNumbered, HasNoDoubles, IsAccepted, IsCommandOf, IsCount, IsPlanLineOf}
 use Rattle.tp_script.specs.Kinds.{AllSaid, IsSaid, Kind, Said, kinds}
-use Rattle.tp_script.specs.Meaning.{at_line, begun, header_at, header_line, in_group, line_of, lines_from, one_line, script_at, shape_at, shape_begun, shaped}
-use Rattle.tp_script.specs.Print.{body, command_words, end_words, header_words, pick_words, plan_words, script_lines, session_lines, shape_words, text_of}
+use Rattle.tp_script.specs.Meaning.{begun, causes, in_group, line_of, script_at, script_from, shape_begun, shaped}
+use Rattle.tp_script.specs.Print.{body, command_words, pick_words, plan_words, script_lines, session_lines, shape_words}
 use Rattle.tp_script.specs.declared.draft.Draft.{Draft}
-use Rattle.tp_script.specs.declared.fault.ScriptCause.{ScriptCause}
-use Rattle.tp_script.specs.declared.fault.ScriptCause.TheVariants.{Header, Missing}
-use Rattle.tp_script.specs.declared.fault.ScriptFault.{ScriptFault}
+use Rattle.tp_script.specs.declared.fault.ScriptCause.TheVariants.{Missing}
 use Rattle.tp_script.specs.declared.script.PlanLine.{PlanLine}
 use Rattle.tp_script.specs.declared.script.PlanLine.TheVariants.{Crash, Recover, Lose, Repeat, RepeatAll}
 use Rattle.tp_script.specs.declared.script.Script.{Script}
-use Rattle.tp_script.proofs.Found.{joined}
 use Rattle.tp_script.proofs.Grown.{Words, one_longer, with_home}
 use Rattle.tp_script.proofs.Kinded.{IsKind, laws}
 use Rattle.tp_script.proofs.LinesAgain.{command_read, line_read, no_double, number_next, pick_read, session_read, shape_written, so_far, with_next}
-use Rattle.tp_script.proofs.LinesRead.{step, unread, with_end}
-use Rattle.tp_script.proofs.OpsWritten.{ops_plain, plain_by}
+use Rattle.tp_script.proofs.OpsWritten.{ops_plain}
 use Rattle.tp_script.proofs.PlanGrown.{IsBase, actor_in, base_of, crash_fit, crash_kinds, drop_fit, drop_kinds, recover_fit, recover_kinds, repeat_fit, repeat_kinds, same_line, with_line, with_pick}
-use Rattle.tp_text.specs.Lines.{lines_of, words_of}
-use Rattle.tp_text.specs.Numbers.{number_of}
-use Rattle.tp_text.specs.Rows.{no_word, words_of_row}
-use Rattle.tp_text.specs.Steps.{◌>>=◌}
-use Rattle.tp_text.proofs.Joined.{IsPlain, lines_again, words_again}
-use Rattle.tp_text.proofs.Plain.{decimal_plain}
+use Rattle.tp_text.specs.Framing.{end_words}
+use Rattle.tp_text.specs.Rows.{no_more, words_of_row}
+use Rattle.tp_text.proofs.Joined.{IsPlain}
+use Rattle.tp_text.proofs.LinesAgain as again
+use Rattle.tp_text.proofs.LinesAgain.{IsLine, end_plain, header_again, header_plain, line_again, run_again, some_others}
+use Rattle.tp_text.proofs.LinesFound.{joined}
+use Rattle.tp_text.proofs.Plain.{decimal_plain, plain_by}
 use Rattle.tp_text.proofs.Rowed.{AreSaid, row_plain}
 use Rattle.tp_topology.specs.Shape.{IsShape, Shape as StoreShape}
 
@@ -122,9 +119,6 @@ body_runs s ok =
 
 -- ---- no spaces in the words of a line
 
-abbrev IsLine : Words → Type 0
-IsLine words = Each IsPlain words × (1 ≤ length words)
-
 row_words : (ks : List Kind) → Each IsKind ks → (said : AllSaid ks) → AreSaid {Said = Said} IsSaid ks said → Each IsPlain (words_of_row kinds ks said)
 row_words ks fit said fits = row_plain kinds IsKind IsSaid laws ks fit said fits
 
@@ -164,83 +158,42 @@ body_plain s ok =
     (each_append IsLine (map command_words s.commands) (map plan_words s.plan ++ map pick_words s.picks) (commands_plain s.homes s.commands ok.sessions ok.commands)
     (each_append IsLine (map plan_words s.plan) (map pick_words s.picks) (plan_plain s s.plan (base_of s ok) ok.plan) (picks_plain s.picks ok.picks)))
 
-header_plain : IsLine header_words
-header_plain = ((plain_by (codes "tempo") refl, (plain_by (codes "1") refl, tt)), omega arith)
-
 shape_plain : (s : StoreShape) → IsShape s → IsLine (shape_words s)
 shape_plain s valid =
     ((plain_by (codes "shape") refl, (decimal_plain s.partitions (omega (arith, valid.few_partitions)), (decimal_plain s.replicas (omega (arith, valid.few_replicas)), (decimal_plain s.failures (omega (arith, valid.minority, valid.few_replicas)), tt)))), omega arith)
 
-end_plain : IsLine end_words
-end_plain = ((plain_by (codes "end") refl, tt), omega arith)
-
-script_plain : (s : Script) → IsAccepted s → Each (Each IsPlain) (script_lines s)
+pub script_plain : (s : Script) → IsAccepted s → Each IsLine (script_lines s)
 script_plain s ok =
-    each_weaker IsLine (Each IsPlain) (λ words line. line.0) (script_lines s)
-    (header_plain, (shape_plain s.topology ok.shape, each_append IsLine (body s) (end_words ∷ []) (body_plain s ok) (end_plain, tt)))
+    (header_plain (codes "tempo") (plain_by (codes "tempo") refl), (shape_plain s.topology ok.shape, each_append IsLine (body s) (end_words ∷ []) (body_plain s ok) (end_plain, tt)))
 
 -- ---- the lines are read
 
-words_back : (words : Words) → IsLine words → words_of (join_with_byte 32 words) ≡ words
-words_back [] line = absurd (omega (arith, line.1))
-words_back (w ∷ words) line = words_again w words line.0
-
-one_again : (n : ℕ) (d : Draft) (words : Words) (lines : Words) → IsLine words → 0 < length lines → one_line n d (join_with_byte 32 words ∷ lines) ≡ at_line n (line_of d words)
-unfolding one_line
-one_again n d words lines line some = rw (with_end n Missing (join_with_byte 32 words) lines some, words_back words line) refl
-
 end_read : (d : Draft) → line_of d end_words ≡ Ok (false, d)
-unfolding line_of begun no_word
+unfolding line_of begun no_more
 end_read d = refl
 
-some_others : (lines : List Words) (rest : Words) → 0 < length (joined (lines ++ end_words ∷ []) ++ rest)
-some_others [] rest = omega arith
-some_others (words ∷ lines) rest = omega arith
-
-lines_read : (g k n : ℕ) (s t : Script) (lines : List Words) (rest : Words) → 0 < length rest → Runs g k s lines t → Each IsLine lines → lines_from n (so_far k s) (joined (lines ++ end_words ∷ []) ++ rest) ≡ Ok (t, rest)
-lines_read g k n s t [] rest some run plain =
-    let d : Draft = so_far k s in
-    let one : one_line n d (join_with_byte 32 end_words ∷ rest) ≡ Ok (false, d) = one_again n d end_words rest end_plain some ∙ ap (at_line n) (end_read d) in
-    step n d (join_with_byte 32 end_words) rest ∙ ap (λ (r : Result (Bool × Draft) ScriptFault). r >>= λ x. unread x.0 (n + 1) x.1 rest) one ∙ ap (λ (z : Script). let r : Result (Script × Words) ScriptFault = Ok (z, rest) in r) run.0
-lines_read g k n s t (words ∷ lines) rest some run plain =
-    let d : Draft = so_far k s in
-    let others : Words = joined (lines ++ end_words ∷ []) ++ rest in
-    let one : one_line n d (join_with_byte 32 words ∷ others) ≡ Ok (in_group run.0 run.1) = one_again n d words others plain.0 (some_others lines rest) ∙ ap (at_line n) run.2 in
-    step n d (join_with_byte 32 words) others ∙ ap (λ (r : Result (Bool × Draft) ScriptFault). r >>= λ x. unread x.0 (n + 1) x.1 others) one ∙ lines_read g run.0 (n + 1) run.1 t lines rest some run.3 plain.1
-
-header_read : header_line header_words ≡ Ok tt
-unfolding header_line number_of
-header_read = refl
-
-header_again : (n : ℕ) (lines : Words) → 0 < length lines → header_at n (join_with_byte 32 header_words ∷ lines) ≡ Ok lines
-unfolding header_at
-header_again n lines some = rw (with_end n Header (join_with_byte 32 header_words) lines some, words_back header_words header_plain, header_read) refl
-
-abbrev Shaped : Type 0
-Shaped = Result (StoreShape × Words) ScriptFault
+-- the drafts that lead to a script
+draft_runs : (g k : ℕ) (s t : Script) (lines : List Words) → Runs g k s lines t → (j : ℕ) × again.Runs line_of (so_far k s) lines (so_far j t)
+draft_runs g k s t [] run = (k, ap (so_far k) run.0)
+draft_runs g k s t (words ∷ lines) run =
+    let rest = draft_runs g run.0 run.1 t lines run.3 in
+    (rest.0, (so_far run.0 run.1, run.2, rest.1))
 
 shape_read : (s : StoreShape) → IsShape s → shape_begun (shape_words s) ≡ Ok s
 unfolding shape_begun
 shape_read s valid = shape_written s valid
 
-shape_again : (n : ℕ) (s : StoreShape) (lines : Words) → IsShape s → 0 < length lines → shape_at n (join_with_byte 32 (shape_words s) ∷ lines) ≡ Ok (s, lines)
-unfolding shape_at
-shape_again n s lines valid some =
-    let done : StoreShape → Shaped = λ shape. Ok (shape, lines) in
-    let text : List ℕ = join_with_byte 32 (shape_words s) in
-    let first : shape_at n (text ∷ lines) ≡ (at_line n (shape_begun (words_of text)) >>= done) = ap (λ (r : Result (List ℕ × Words) ScriptFault). let z : Shaped = r >>= λ line. at_line n (shape_begun (words_of line.0)) >>= λ shape. Ok (shape, line.1) in z) (with_end n Missing text lines some) in
-    let second : (at_line n (shape_begun (words_of text)) >>= done) ≡ (at_line n (shape_begun (shape_words s)) >>= done) = ap (λ (ws : Words). let z : Shaped = at_line n (shape_begun ws) >>= done in z) (words_back (shape_words s) (shape_plain s valid)) in
-    first ∙ second ∙ ap (λ (r : Result StoreShape ScriptCause). let z : Shaped = at_line n r >>= done in z) (shape_read s valid)
+body_again : (n : ℕ) (s : Script) (rest : Words) → IsAccepted s → 0 < length rest → script_from n s.topology (joined (body s ++ end_words ∷ []) ++ rest) ≡ Ok (s, rest)
+unfolding script_from
+body_again n s rest ok some =
+    let run = draft_runs 4 0 (shaped s.topology).script s (body s) (body_runs s ok) in
+    let end : Draft = so_far run.0 s in
+    rw (run_again Missing line_of end_words n (shaped s.topology) end (body s) rest some end_plain (end_read end) run.1 (body_plain s ok)) refl
 
 pub script_again : (n : ℕ) (s : Script) (rest : Words) → IsAccepted s → 0 < length rest → script_at n (joined (script_lines s) ++ rest) ≡ Ok (s, rest)
 unfolding script_at
 script_again n s rest ok some =
     let others : Words = joined (body s ++ end_words ∷ []) ++ rest in
-    let more : 0 < length others = some_others (body s) rest in
-    let lines : lines_from (n + 2) (shaped s.topology) others ≡ Ok (s, rest) = lines_read 4 0 (n + 2) (shaped s.topology).script s (body s) rest some (body_runs s ok) (body_plain s ok) in
-    rw (header_again n (join_with_byte 32 (shape_words s.topology) ∷ others) (omega arith), shape_again (n + 1) s.topology others ok.shape more) lines
-
--- the pieces of a script's text with something behind it
-pub text_again : (s : Script) (rest : List ℕ) → IsAccepted s → lines_of (text_of s ++ rest) ≡ joined (script_lines s) ++ lines_of rest
-unfolding text_of
-text_again s rest ok = lines_again (script_lines s) rest (script_plain s ok)
+    let header = header_again (codes "tempo") causes n (join_with_byte 32 (shape_words s.topology) ∷ others) (plain_by (codes "tempo") refl) (omega arith) in
+    let shape = line_again (n + 1) Missing shape_begun (shape_words s.topology) others s.topology (shape_plain s.topology ok.shape) (some_others (body s) end_words rest) (shape_read s.topology ok.shape) in
+    rw (header, shape) (body_again (n + 2) s rest ok some)

@@ -18,7 +18,8 @@ use Rattle.tp_script.specs.declared.fault.ScriptCause.{ScriptCause}
 use Rattle.tp_script.specs.declared.fault.ScriptCause.TheVariants.{Word, Number, Shape, Key, Value, Session}
 use Rattle.tp_text.specs.Hexadecimal.{hex_of}
 use Rattle.tp_text.specs.Lines.{halves}
-use Rattle.tp_text.specs.Numbers.{number_of}
+use Rattle.tp_text.specs.Names.{actor_word, id_at, id_word, site_at, site_word}
+use Rattle.tp_text.specs.Numbers.{number_at, number_of}
 use Rattle.tp_text.specs.Rows as rows
 use Rattle.tp_text.specs.Steps.{◌>>=◌, ◌>>◌, else_cause, need}
 use Rattle.tp_topology.specs.Shape.{Shape as StoreShape}
@@ -44,12 +45,6 @@ ordinal = number 1 most
 
 abbrev pub times : Kind
 times = number 2 9
-
-abbrev pub site_at : ℕ × ℕ → Site
-site_at pair = record { partition = record { 0 = pair.0 }; rank = record { 0 = pair.1 } }
-
-abbrev pub id_at : ℕ × ℕ → CommandId
-id_at pair = record { session = record { 0 = pair.0 }; number = pair.1 }
 
 -- ---- what a word says
 
@@ -80,21 +75,6 @@ IsSaid (actor shape sessions) a = IsActorIn shape sessions a
 
 -- ---- the one word that says it
 
--- two numbers with a point between them
-abbrev pub dotted : ℕ → ℕ → List ℕ
-dotted m n = decimal m ++ 46 ∷ decimal n
-
-abbrev pub site_word : Site → List ℕ
-site_word s = dotted s.partition.0 s.rank.0
-
-abbrev pub id_word : CommandId → List ℕ
-id_word i = dotted i.session.0 i.number
-
-abbrev pub actor_word : ActorName → List ℕ
-actor_word (Process s) = 112 ∷ site_word s
-actor_word (Executor s) = 101 ∷ site_word s
-actor_word (SessionOf s) = 115 ∷ decimal s.0
-
 abbrev pub value_word : List ℕ → List ℕ
 value_word [] = codes "-"
 value_word (b ∷ bytes) = encode_lower (b ∷ bytes)
@@ -112,12 +92,6 @@ word_of (actor shape sessions) a = actor_word a
 
 abbrev pub is_from : ℕ → ℕ → ℕ → Bool
 is_from low high n = nat_le low n && nat_le n high
-
-unfoldable pub number_at : ℕ → ℕ → List ℕ → Result ℕ ScriptCause
-number_at low high word = do
-  n ← else_cause Number (number_of high word)
-  need (nat_le low n) Number
-  Ok n
 
 unfoldable pub bytes_at : ScriptCause → ℕ → List ℕ → Result (List ℕ) ScriptCause
 bytes_at cause longest word = do
@@ -170,7 +144,7 @@ read_actor shape sessions (letter ∷ word) =
     else (if letter == 115 then read_session sessions word else Err Word))
 
 abbrev pub read_word : (k : Kind) → List ℕ → Result (Said k) ScriptCause
-read_word (number low high) word = number_at low high word
+read_word (number low high) word = number_at Number low high word
 read_word (literal text) word = need (bytes_eq word text) Word
 read_word key word = bytes_at Key 32 word
 read_word value word = value_at word

@@ -3,4 +3,3 @@ pub mod Grammar
 pub mod Kinds
 pub mod Meaning
 pub mod Print
-pub mod Reading

@@ -1,29 +1,18 @@
 -- What a script's lines say: a script and the lines behind its `end`, or the first faulty line with its first fault.
-use Rattle.std.specs.Prelude.{ℕ, ◌+◌, ◌==◌, ◌&&◌, nat_le, Bool, true, false, if◌then◌else◌, List, [], ◌∷◌, codes, Result, Ok, Err}
+use Rattle.std.specs.Prelude.{ℕ, ◌+◌, ◌&&◌, nat_le, Bool, true, false, if◌then◌else◌, List, [], ◌∷◌, codes, Result, Ok, Err}
 use Rattle.std.specs.Str.{bytes_eq}
 use Rattle.tp_script.specs.Grammar.{command_line, crash_line, drop_line, pick_line, recover_line, repeat_line, session_line, shape_line, with_plan}
-use Rattle.tp_script.specs.Kinds.{most, no_word}
+use Rattle.tp_script.specs.Kinds.{no_word}
 use Rattle.tp_script.specs.declared.draft.Draft.{Draft}
 use Rattle.tp_script.specs.declared.fault.ScriptCause.{ScriptCause}
 use Rattle.tp_script.specs.declared.fault.ScriptCause.TheVariants.{Header, Newer, Missing, Word}
-use Rattle.tp_script.specs.declared.fault.ScriptFault.{ScriptFault}
 use Rattle.tp_script.specs.declared.script.PlanLine.{PlanLine}
 use Rattle.tp_script.specs.declared.script.Script.{Script}
-use Rattle.tp_text.specs.Lines.{words_of}
-use Rattle.tp_text.specs.Numbers.{number_of}
-use Rattle.tp_text.specs.Steps.{◌>>=◌, ◌>>◌}
-use Rattle.tp_text.specs.declared.numbers.NumberFault.{NumberFault}
+use Rattle.tp_text.specs.Framing.{header_at, line_at, lines_from}
+use Rattle.tp_text.specs.Steps.{◌>>=◌}
+use Rattle.tp_text.specs.declared.fault.TextFault.{TextFault}
+use Rattle.tp_text.specs.declared.framing.HeaderCauses.{HeaderCauses}
 use Rattle.tp_topology.specs.Shape.{Shape as StoreShape}
-
--- ---- line 1: `tempo 1`
-
-abbrev pub version : Result ℕ NumberFault → Result (Unit {0}) ScriptCause
-version (Ok n) = if n == 1 then Ok tt else (if nat_le 2 n then Err Newer else Err Header)
-version (Err fault) = Err Header
-
-unfoldable pub header_line : List (List ℕ) → Result (Unit {0}) ScriptCause
-header_line (name ∷ number ∷ []) = if bytes_eq name (codes "tempo") then version (number_of most number) else Err Header
-header_line _ = Err Header
 
 -- ---- line 2: `shape`
 
@@ -64,53 +53,24 @@ unfoldable pub line_of : Draft → List (List ℕ) → Result (Bool × Draft) Sc
 line_of draft [] = Err Word
 line_of draft (word ∷ words) = begun draft word words
 
--- ---- lines with their numbers
+-- ---- all lines
 
-abbrev pub fault_at : ℕ → ScriptCause → ScriptFault
-fault_at n cause = record { line = n; cause = cause }
-
-abbrev pub at_line : {A : Type 0} → ℕ → Result A ScriptCause → Result A ScriptFault
-at_line n (Ok x) = Ok x
-at_line n (Err cause) = Err (fault_at n cause)
-
--- the next line and those behind it; the last piece of an input is no line
-unfoldable pub ended_line : ℕ → ScriptCause → List (List ℕ) → Result (List ℕ × List (List ℕ)) ScriptFault
-ended_line n cause [] = Err (fault_at n cause)
-ended_line n cause (piece ∷ []) = Err (fault_at n cause)
-ended_line n cause (line ∷ next ∷ lines) = Ok (line, next ∷ lines)
-
-unfoldable pub one_line : ℕ → Draft → List (List ℕ) → Result (Bool × Draft) ScriptFault
-one_line n draft lines = do
-  line ← ended_line n Missing lines
-  at_line n (line_of draft (words_of line.0))
-
--- from line n on, up to `end`, and what stands behind it
-unfoldable pub lines_from : ℕ → Draft → List (List ℕ) → Result (Script × List (List ℕ)) ScriptFault
-lines_from n draft [] = Err (fault_at n Missing)
-lines_from n draft (line ∷ lines) = do
-  more ← one_line n draft (line ∷ lines)
-  if more.0 then lines_from (n + 1) more.1 lines else Ok (more.1.script, lines)
+-- why the first line is faulty
+abbrev pub causes : HeaderCauses ScriptCause
+causes = record { header = Header; newer = Newer }
 
 abbrev pub shaped : StoreShape → Draft
 shaped shape = record { group = 0; script = record { topology = shape; homes = []; commands = []; plan = []; picks = [] } }
 
--- line n as the first line, and the lines behind it
-unfoldable pub header_at : ℕ → List (List ℕ) → Result (List (List ℕ)) ScriptFault
-header_at n lines = do
-  line ← ended_line n Header lines
-  at_line n (header_line (words_of line.0))
-  Ok line.1
+-- the script of a shape whose next line has the number n, and what stands behind its `end`
+unfoldable pub script_from : ℕ → StoreShape → List (List ℕ) → Result (Script × List (List ℕ)) (TextFault ScriptCause)
+script_from n shape lines = do
+  read ← lines_from Missing line_of n (shaped shape) lines
+  Ok (read.0.script, read.1)
 
--- line n as the second line: the shape, and the lines behind it
-unfoldable pub shape_at : ℕ → List (List ℕ) → Result (StoreShape × List (List ℕ)) ScriptFault
-shape_at n lines = do
-  line ← ended_line n Missing lines
-  shape ← at_line n (shape_begun (words_of line.0))
-  Ok (shape, line.1)
-
--- a script whose first line has the number n
-unfoldable pub script_at : ℕ → List (List ℕ) → Result (Script × List (List ℕ)) ScriptFault
+-- a script whose first line, `tempo 1`, has the number n
+unfoldable pub script_at : ℕ → List (List ℕ) → Result (Script × List (List ℕ)) (TextFault ScriptCause)
 script_at n lines = do
-  first ← header_at n lines
-  second ← shape_at (n + 1) first
-  lines_from (n + 2) (shaped second.0) second.1
+  first ← header_at (codes "tempo") causes n lines
+  second ← line_at (n + 1) Missing shape_begun first.1
+  script_from (n + 2) second.0 second.1

@@ -6,15 +6,14 @@ use Rattle.tp_base.specs.declared.names.Rank.{Rank}
 use Rattle.tp_ops.specs.declared.command.Command.{Command}
 use Rattle.tp_ops.specs.declared.operation.Op.{Op}
 use Rattle.tp_ops.specs.declared.operation.Op.TheVariants.{Get, Put, Del, Cas}
-use Rattle.tp_script.specs.Kinds.{actor_word, id_word, site_word, value_word}
+use Rattle.tp_script.specs.Kinds.{value_word}
 use Rattle.tp_script.specs.declared.script.PlanLine.{PlanLine}
 use Rattle.tp_script.specs.declared.script.PlanLine.TheVariants.{Crash, Recover, Lose, Repeat, RepeatAll}
 use Rattle.tp_script.specs.declared.script.Script.{Script}
+use Rattle.tp_text.specs.Framing.{end_words, header_words}
+use Rattle.tp_text.specs.Names.{actor_word, id_word, site_word}
 use Rattle.tp_text.specs.Writing.{lines_text}
 use Rattle.tp_topology.specs.Shape.{Shape as StoreShape}
-
-abbrev pub header_words : List (List ℕ)
-header_words = codes "tempo" ∷ codes "1" ∷ []
 
 abbrev pub shape_words : StoreShape → List (List ℕ)
 shape_words s = codes "shape" ∷ decimal s.partitions ∷ decimal s.replicas ∷ decimal s.failures ∷ []
@@ -55,15 +54,12 @@ plan_words (RepeatAll times) = codes "repeat" ∷ codes "all" ∷ decimal times 
 abbrev pub pick_words : ℕ → List (List ℕ)
 pick_words pick = codes "pick" ∷ decimal pick ∷ []
 
-abbrev pub end_words : List (List ℕ)
-end_words = codes "end" ∷ []
-
 -- the lines between `shape` and `end`
 abbrev pub body : Script → List (List (List ℕ))
 body s = session_lines 1 s.homes ++ (map command_words s.commands ++ (map plan_words s.plan ++ map pick_words s.picks))
 
 abbrev pub script_lines : Script → List (List (List ℕ))
-script_lines s = header_words ∷ shape_words s.topology ∷ (body s ++ end_words ∷ [])
+script_lines s = header_words (codes "tempo") ∷ shape_words s.topology ∷ (body s ++ end_words ∷ [])
 
 -- its bytes
 unfoldable pub text_of : Script → List ℕ

@@ -2,7 +2,7 @@ ghost use Rattle.std.specs.Option.{option_copied};
 ghost use Rattle.std.specs.Prelude.{◌≡◌, ◌≤◌, ◌+◌, length};
 ghost use Rattle.tp_script.specs.Accepted.{commands_by};
 ghost use Rattle.tp_script.specs.Grammar.{command_line, home_of, next_number};
-ghost use Rattle.tp_script.specs.Reading.{Gives};
+ghost use Rattle.tp_text.specs.Reading.{Gives};
 
 use crate::fault::{Refusal, ScriptCause};
 use crate::operations::read_ops;

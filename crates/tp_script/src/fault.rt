@@ -1,17 +1,5 @@
-ghost use Rattle.std.specs.Prelude.{◌≡◌};
-ghost use Rattle.tp_script.specs.declared.fault.Refusal.TheVariants.{Memory};
-
-use std::alloc::{AllocError, AllocFailed};
 use thiserror::Error;
-use tp_base::NoMemory;
-
-/// The first faulty line of a script, from 1, and its first fault.
-#[derive(Clone, Copy, Debug, PartialEq, Eq, Error)]
-#[error("line {line}: {cause}")]
-pub struct ScriptFault {
-    pub line: u64,
-    pub cause: ScriptCause,
-}
+use tp_text::{TextError, TextFault};
 
 /// Why a line is faulty.
 #[derive(Clone, Copy, Debug, PartialEq, Eq, Error)]
@@ -49,42 +37,11 @@ pub enum ScriptCause {
     Limit { count: u64, limit: u64 },
 }
 
+/// The first faulty line of a script, from 1, and its first fault.
+pub type ScriptFault = TextFault<ScriptCause>;
+
 /// Why no script was read.
-#[derive(Clone, Copy, Debug, PartialEq, Eq, Error)]
-pub enum ScriptError {
-    #[error("{0}")]
-    Fault(ScriptFault),
-    #[error("memory")]
-    NoMemory,
-}
+pub type ScriptError = TextError<ScriptCause>;
 
 // Why a part of a line was not read.
-#[derive(Clone, Copy, Debug, PartialEq, Eq)]
-pub(crate) enum Refusal {
-    Memory,
-    Cause(ScriptCause),
-}
-
-impl From<NoMemory> for Refusal {
-    ghost from_gives = { λ _ e. e ≡ Memory };
-
-    fn from(_: NoMemory) -> Self {
-        Refusal::Memory
-    }
-}
-
-impl From<AllocError> for Refusal {
-    ghost from_gives = { λ _ e. e ≡ Memory };
-
-    fn from(_: AllocError) -> Self {
-        Refusal::Memory
-    }
-}
-
-impl<T: Drop> From<AllocFailed<T>> for Refusal {
-    ghost from_gives = { λ _ e. e ≡ Memory };
-
-    fn from(_: AllocFailed<T>) -> Self {
-        Refusal::Memory
-    }
-}
+pub(crate) type Refusal = tp_text::Refusal<ScriptCause>;

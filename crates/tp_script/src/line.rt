@@ -1,7 +1,7 @@
 ghost use Rattle.std.specs.Prelude.{◌≡◌, ◌≤◌, length, OnOk};
 ghost use Rattle.tp_script.specs.Grammar.{command_line, crash_line, drop_line, pick_line, recover_line, repeat_line, session_line, with_plan};
 ghost use Rattle.tp_script.specs.Meaning.{begun, into_group, into_plan, line_of, stands};
-ghost use Rattle.tp_script.specs.Reading.{Gives};
+ghost use Rattle.tp_text.specs.Reading.{Gives};
 
 use crate::commands::read_command;
 use crate::draft::Draft;
@@ -11,7 +11,7 @@ use crate::script::PlanLine;
 use crate::setup::{read_pick, read_session};
 use crate::words::take_end;
 use std::alloc::Global;
-use tp_text::Words;
+use tp_text::{LineReader, Words};
 
 fn enter_session(draft: &mut Draft, words: &mut Words) -> Result<bool, Refusal>
     ensures read { Gives (λ more. (more, draft.new)) result (into_group 1 (session_line draft.old.script words.old)) }
@@ -122,19 +122,17 @@ fn enter(alloc: Global, draft: &mut Draft, word: &[u8], words: &mut Words) -> Re
     }
 }
 
-/// A line behind the shape. Whether more lines follow it.
-#[tactic(auto, unfolding(crate::specs::Meaning::line_of))]
-pub(crate) fn read_line(
-    alloc: Global,
-    draft: &mut Draft,
-    words: &mut Words,
-) -> Result<bool, Refusal>
-    requires { length draft.old.script.homes ≤ 16 }
-    ensures read { Gives (λ more. (more, draft.new)) result (line_of draft.old words.old) }
-    ensures few { OnOk result (length draft.new.script.homes ≤ 16) }
-{
-    match words.next_word() {
-        Some(word) => enter(alloc, draft, word, words),
-        None => Err(Refusal::Cause(ScriptCause::Word)),
+/// The lines behind the shape.
+impl LineReader<ScriptCause> for Draft {
+    ghost line_of = { line_of };
+
+    ghost is_fit = { λ draft. length draft.script.homes ≤ 16 };
+
+    #[tactic(auto, unfolding(crate::specs::Meaning::line_of))]
+    fn read_line(&mut self, alloc: Global, words: &mut Words) -> Result<bool, Refusal> {
+        match words.next_word() {
+            Some(word) => enter(alloc, self, word, words),
+            None => Err(Refusal::Cause(ScriptCause::Word)),
+        }
     }
 }

@@ -1,9 +1,10 @@
 ghost use Rattle.std.specs.Prelude.{◌≡◌, Some, None, if◌then◌else◌};
 ghost use Rattle.tp_script.specs.declared.fault.ScriptCause.TheVariants.{Word};
+ghost use Rattle.tp_text.specs.Names.{id_at};
 ghost use Rattle.tp_text.specs.Numbers.{number_of};
 ghost use Rattle.tp_text.specs.Steps.{else_cause};
-ghost use Rattle.tp_script.specs.Kinds.{most, actor, dotted_at, id, id_at, is_there, read_actor, read_id, read_session, read_site, site, take_word};
-ghost use Rattle.tp_script.specs.Reading.{Gives};
+ghost use Rattle.tp_script.specs.Kinds.{most, actor, dotted_at, id, is_there, read_actor, read_id, read_session, read_site, site, take_word};
+ghost use Rattle.tp_text.specs.Reading.{Gives};
 
 use crate::fault::{Refusal, ScriptCause};
 use crate::words::MOST;

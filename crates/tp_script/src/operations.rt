@@ -1,6 +1,6 @@
 ghost use Rattle.std.specs.Prelude.{◌≡◌, ◌≤◌, ◌<◌, ◌++◌, ◌∷◌, [], take, Some, None, if◌then◌else◌, length, OnOk};
 ghost use Rattle.tp_script.specs.Grammar.{after_op, cas_at, del_at, get_at, op_and_after, op_at, ops_and_count, put_at};
-ghost use Rattle.tp_script.specs.Reading.{Gives};
+ghost use Rattle.tp_text.specs.Reading.{Gives};
 
 use crate::fault::{Refusal, ScriptCause};
 use crate::words::{take_key, take_value};

@@ -1,7 +1,7 @@
 ghost use Rattle.std.specs.Prelude.{◌≡◌, ◌≤◌, length};
 ghost use Rattle.tp_script.specs.Accepted.{is_double};
 ghost use Rattle.tp_script.specs.Grammar.{crash_line, drop_line, has_double, recover_line, repeat_all, repeat_line, repeat_one, with_plan};
-ghost use Rattle.tp_script.specs.Reading.{Gives};
+ghost use Rattle.tp_text.specs.Reading.{Gives};
 
 use crate::fault::{Refusal, ScriptCause};
 use crate::names::{take_actor, take_id, take_site};

@@ -1,23 +1,16 @@
 ghost use Rattle.std.specs.Prelude.{◌≡◌, ◌∷◌, [], codes, map, IfOk, OnOk};
 ghost use Rattle.std.specs.Fmt.{decimal};
-ghost use Rattle.tp_script.specs.Kinds.{actor_word, site_word, value_word};
-ghost use Rattle.tp_script.specs.Print.{command_words, end_words, header_words, more_words, op_words, ops_words, pick_words, plan_words, session_lines, session_words, shape_words, text_of};
+ghost use Rattle.tp_script.specs.Kinds.{value_word};
+ghost use Rattle.tp_script.specs.Print.{command_words, more_words, op_words, ops_words, pick_words, plan_words, session_lines, session_words, shape_words, text_of};
+ghost use Rattle.tp_text.specs.Names.{actor_word};
 ghost use Rattle.tp_text.specs.Writing.{ended, with_lines, with_word, with_words};
 
 use crate::script::{PlanLine, Script};
 use std::alloc::Global;
-use tp_base::{ActorName, Bytes, NoMemory, Rank, Site};
+use tp_base::{ActorName, Bytes, NoMemory, Rank};
 use tp_ops::{Command, Op};
 use tp_text::Text;
 use tp_topology::Topology;
-
-fn put_header(text: &mut Text) -> Result<(), NoMemory>
-    ensures { OnOk result (text.new ≡ ended (with_words text.old header_words)) }
-{
-    text.word(b"tempo")?;
-    text.word(b"1")?;
-    text.end_line()
-}
 
 fn put_shape(text: &mut Text, topology: &Topology) -> Result<(), NoMemory>
     ensures { OnOk result (text.new ≡ ended (with_words text.old (shape_words topology.now))) }
@@ -125,30 +118,6 @@ fn put_commands(text: &mut Text, commands: &[Command]) -> Result<(), NoMemory>
     Ok(())
 }
 
-fn put_site(text: &mut Text, site: Site) -> Result<(), NoMemory>
-    ensures { OnOk result (text.new ≡ with_word text.old (site_word site)) }
-{
-    text.dotted(b"", u64::from(site.partition.0), u64::from(site.rank.0))
-}
-
-fn put_actor(text: &mut Text, actor: ActorName) -> Result<(), NoMemory>
-    ensures { OnOk result (text.new ≡ with_word text.old (actor_word actor)) }
-{
-    match actor {
-        ActorName::Process(site) => text.dotted(
-            b"p",
-            u64::from(site.partition.0),
-            u64::from(site.rank.0),
-        ),
-        ActorName::Executor(site) => text.dotted(
-            b"e",
-            u64::from(site.partition.0),
-            u64::from(site.rank.0),
-        ),
-        ActorName::Session(session) => text.marked(b"s", u64::from(session.0)),
-    }
-}
-
 fn put_after(text: &mut Text, after: u32) -> Result<(), NoMemory>
     ensures { OnOk result (text.new ≡ with_words text.old (codes "after" ∷ decimal after ∷ [])) }
 {
@@ -166,8 +135,8 @@ fn put_fate(
     ensures { OnOk result (text.new ≡ with_words text.old (name.now ∷ actor_word from ∷ actor_word to ∷ decimal ordinal ∷ [])) }
 {
     text.word(name)?;
-    put_actor(text, from)?;
-    put_actor(text, to)?;
+    text.actor(from)?;
+    text.actor(to)?;
     text.number(u64::from(ordinal))
 }
 
@@ -177,13 +146,13 @@ fn put_plan_words(text: &mut Text, line: &PlanLine) -> Result<(), NoMemory>
     match *line {
         PlanLine::Crash { site, after } => {
             text.word(b"crash")?;
-            put_site(text, site)?;
+            text.site(site)?;
             put_after(text, after)
         }
         PlanLine::Recover { site, id, after } => {
             text.word(b"recover")?;
-            put_site(text, site)?;
-            text.dotted(b"", u64::from(id.session.0), u64::from(id.number))?;
+            text.site(site)?;
+            text.id(id)?;
             put_after(text, after)
         }
         PlanLine::Lose { from, to, ordinal } => put_fate(text, b"drop", from, to, ordinal),
@@ -225,24 +194,17 @@ fn put_picks(text: &mut Text, picks: &[u32]) -> Result<(), NoMemory>
     Ok(())
 }
 
-fn put_end(text: &mut Text) -> Result<(), NoMemory>
-    ensures { OnOk result (text.new ≡ ended (with_words text.old end_words)) }
-{
-    text.word(b"end")?;
-    text.end_line()
-}
-
 /// The one text that is read as the script.
 pub fn print_script(alloc: Global, script: &Script) -> Result<Bytes, NoMemory>
     ensures { IfOk result (λ bytes. bytes ≡ text_of script.now) }
 {
     let mut text = Text::new(alloc);
-    put_header(&mut text)?;
+    text.header(b"tempo")?;
     put_shape(&mut text, &script.topology)?;
     put_sessions(&mut text, script.homes.as_slice())?;
     put_commands(&mut text, script.commands.as_slice())?;
     put_plan(&mut text, script.plan.as_slice())?;
     put_picks(&mut text, script.picks.as_slice())?;
-    put_end(&mut text)?;
+    text.end()?;
     Ok(text.finish())
 }

@@ -1,6 +1,6 @@
 ghost use Rattle.std.specs.Prelude.{◌≡◌, ◌≤◌, false, true, length, MatchOption, OnOk};
 ghost use Rattle.tp_script.specs.Grammar.{is_shape, pick_line, session_line, shape_line};
-ghost use Rattle.tp_script.specs.Reading.{Gives};
+ghost use Rattle.tp_text.specs.Reading.{Gives};
 
 use crate::fault::{Refusal, ScriptCause};
 use crate::script::Script;

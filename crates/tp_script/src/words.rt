@@ -1,30 +1,23 @@
 ghost use Rattle.std.specs.Prelude.{◌≡◌, ◌≤◌, ◌<◌, length, codes, IfOk, OnOk};
-ghost use Rattle.tp_script.specs.Kinds.{bytes_at, key, literal, no_word, number, number_at, take_word, value, value_at};
-ghost use Rattle.tp_script.specs.Reading.{Gives};
+ghost use Rattle.tp_script.specs.Kinds.{bytes_at, key, literal, no_word, number, take_word, value, value_at};
+ghost use Rattle.tp_script.specs.declared.fault.ScriptCause.TheVariants.{Number};
+ghost use Rattle.tp_text.specs.Numbers.{number_at};
+ghost use Rattle.tp_text.specs.Reading.{Gives};
 
 use crate::fault::{Refusal, ScriptCause};
 use std::alloc::Global;
 use tp_base::Bytes;
-use tp_text::{HexFault, Words, hex, number};
+use tp_text::{HexFault, Words, hex, number_from};
 
 /// The greatest number of a script.
 pub(crate) const MOST: u32 = u32::MAX;
 
-#[tactic(auto, unfolding(crate::specs::Kinds::number_at))]
 fn read_number(word: &[u8], low: u32, high: u32) -> Result<u32, Refusal>
-    ensures read { Gives (λ n. n) result (number_at low high word.now) }
+    ensures read { Gives (λ n. n) result (number_at Number low high word.now) }
     ensures within { IfOk result (λ n. n ≤ high) }
 {
-    match number(word, u64::from(high)) {
-        Ok(n) => {
-            if u64::from(low) <= n {
-                Ok(n as u32)
-            } else {
-                Err(Refusal::Cause(ScriptCause::Number))
-            }
-        }
-        Err(_) => Err(Refusal::Cause(ScriptCause::Number)),
-    }
+    let number = number_from(word, u64::from(low), u64::from(high), ScriptCause::Number)?;
+    Ok(number as u32)
 }
 
 /// The next word, a number in a range.
@@ -57,14 +50,10 @@ pub(crate) fn take_after(words: &mut Words) -> Result<(), Refusal>
 }
 
 /// No further word.
-#[tactic(auto, unfolding(tp_text::specs::Rows::no_word))]
 pub(crate) fn take_end(words: &mut Words) -> Result<(), Refusal>
     ensures { Gives (λ _. tt) result (no_word words.old) }
 {
-    match words.next_word() {
-        Some(_) => Err(Refusal::Cause(ScriptCause::Word)),
-        None => Ok(()),
-    }
+    tp_text::take_end(words, ScriptCause::Word)
 }
 
 #[tactic(auto, unfolding(crate::specs::Kinds::bytes_at))]

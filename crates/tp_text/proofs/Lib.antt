@@ -7,3 +7,7 @@ pub mod Rowed
 pub mod Plain
 pub mod Halved
 pub mod Spelled
+pub mod LinesRead
+pub mod LinesFound
+pub mod LinesAgain
+pub mod Ranged

@@ -2,7 +2,7 @@
 use Rattle.std.proofs.Common.{◌≡◌, ℕ, List, [], ◌∷◌, Ok, refl, ap, subst, ◌∙◌}
 use Rattle.tp_base.specs.Lists.{Each}
 use Rattle.tp_text.specs.Steps.{◌>>=◌}
-use Rattle.tp_text.specs.Rows.{AllSaid, Table, no_word, row, take_word, words_of_row}
+use Rattle.tp_text.specs.Rows.{AllSaid, Table, no_more, row, take_word, words_of_row}
 use Rattle.tp_text.proofs.Stepped.{bind_ok, ok_is}
 use Rattle.tp_text.proofs.Joined.{IsPlain}
 
@@ -26,15 +26,15 @@ taken {Kind} {Cause} t IsKind IsSaid laws k kind (word ∷ words) x e =
     let w = laws.takes k kind word a.0 a.1 in
     subst (λ (y : t.Said k × List (List ℕ)). (word ∷ words ≡ t.text k y.0 ∷ y.1) × IsSaid k y.0) (ok_is Cause (a.0, words) x a.2) (ap (λ (v : List ℕ). v ∷ words) w.0, w.1)
 
-no_more : {Kind Cause : Type 0} (t : Table Kind Cause) (words : List (List ℕ)) (x : Unit {0}) → no_word t words ≡ Ok x → words ≡ []
-unfolding no_word
-no_more t [] x e = refl
-no_more t (word ∷ words) x e = absurd cc
+pub none_is : {Cause : Type 0} (cause : Cause) (words : List (List ℕ)) (x : Unit {0}) → no_more cause words ≡ Ok x → words ≡ []
+unfolding no_more
+none_is cause [] x e = refl
+none_is cause (word ∷ words) x e = absurd cc
 
 -- what is read is written so
 pub row_takes : {Kind Cause : Type 0} (t : Table Kind Cause) (IsKind : Kind → Type 0) (IsSaid : (k : Kind) → t.Said k → Type 0) (laws : AreKinds t IsKind IsSaid) (ks : List Kind) → Each IsKind ks
     → (words : List (List ℕ)) (said : AllSaid t.Said ks) → row t ks words ≡ Ok said → (words ≡ words_of_row t ks said) × AreSaid {Said = t.Said} IsSaid ks said
-row_takes t IsKind IsSaid laws [] kinds words said e = (no_more t words said e, tt)
+row_takes t IsKind IsSaid laws [] kinds words said e = (none_is t.word words said e, tt)
 row_takes {Kind} {Cause} t IsKind IsSaid laws (k ∷ ks) kinds words said e =
     let a = bind_ok (take_word t k words) (λ first. row t ks first.1 >>= λ others. Ok (first.0, others)) said e in
     let b = bind_ok (row t ks a.0.1) (λ others. Ok (a.0.0, others)) said a.2 in
@@ -51,7 +51,7 @@ word_again t IsKind IsSaid laws k kind said words fits = rw (laws.again k kind s
 -- what is written is read
 pub row_again : {Kind Cause : Type 0} (t : Table Kind Cause) (IsKind : Kind → Type 0) (IsSaid : (k : Kind) → t.Said k → Type 0) (laws : AreKinds t IsKind IsSaid) (ks : List Kind) → Each IsKind ks
     → (said : AllSaid t.Said ks) → AreSaid {Said = t.Said} IsSaid ks said → row t ks (words_of_row t ks said) ≡ Ok said
-unfolding no_word
+unfolding no_more
 row_again t IsKind IsSaid laws [] kinds said fits = refl
 row_again t IsKind IsSaid laws (k ∷ ks) kinds said fits =
     rw (word_again t IsKind IsSaid laws k kinds.0 said.0 (words_of_row t ks said.1) fits.0, row_again t IsKind IsSaid laws ks kinds.1 said.1 fits.1) refl

@@ -1,6 +1,9 @@
+pub mod Framing
 pub mod Hexadecimal
 pub mod Lines
+pub mod Names
 pub mod Numbers
+pub mod Reading
 pub mod Rows
 pub mod Steps
 pub mod Writing

@@ -3,6 +3,7 @@ use Rattle.std.specs.Char.{is_ascii_digit}
 use Rattle.std.specs.List.{list_all}
 use Rattle.std.specs.Prelude.{ℕ, ◌==◌, nat_le, Bool, false, if◌then◌else◌, List, [], ◌∷◌, Result, Ok, Err}
 use Rattle.std.specs.Str.Parse.{digits_value}
+use Rattle.tp_text.specs.Steps.{◌>>=◌, ◌>>◌, else_cause, need}
 use Rattle.tp_text.specs.declared.numbers.NumberFault.{NumberFault}
 use Rattle.tp_text.specs.declared.numbers.NumberFault.TheVariants.{NotANumber, NumberTooLarge}
 
@@ -16,3 +17,10 @@ unfoldable pub number_of : ℕ → List ℕ → Result ℕ NumberFault
 number_of limit word =
     if is_number word then (if nat_le (digits_value 10 word) limit then Ok (digits_value 10 word) else Err NumberTooLarge)
     else Err NotANumber
+
+-- what a word says from a number to another, or this fault
+unfoldable pub number_at : {C : Type 0} → C → ℕ → ℕ → List ℕ → Result ℕ C
+number_at cause low high word = do
+  n ← else_cause cause (number_of high word)
+  need (nat_le low n) cause
+  Ok n

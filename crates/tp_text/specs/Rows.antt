@@ -20,10 +20,13 @@ take_word t k (word ∷ words) = do
   said ← t.read k word
   Ok (said, words)
 
--- no further word
-unfoldable pub no_word : {Kind Cause : Type 0} (t : Table Kind Cause) → List (List ℕ) → Result (Unit {0}) Cause
-no_word t [] = Ok tt
-no_word t (word ∷ words) = Err t.word
+-- no further word, or else this fault
+unfoldable pub no_more : {Cause : Type 0} → Cause → List (List ℕ) → Result (Unit {0}) Cause
+no_more cause [] = Ok tt
+no_more cause (word ∷ words) = Err cause
+
+abbrev pub no_word : {Kind Cause : Type 0} (t : Table Kind Cause) → List (List ℕ) → Result (Unit {0}) Cause
+no_word t words = no_more t.word words
 
 -- these kinds of words and no others
 abbrev pub row : {Kind Cause : Type 0} (t : Table Kind Cause) (ks : List Kind) → List (List ℕ) → Result (AllSaid t.Said ks) Cause

@@ -2,6 +2,8 @@
 #![tactic(auto)]
 
 mod cut;
+mod fault;
+mod framing;
 mod hexadecimal;
 mod lines;
 mod numbers;
@@ -9,8 +11,10 @@ mod words;
 mod written;
 
 pub use cut::halves;
+pub use fault::{Refusal, TextError, TextFault};
+pub use framing::{HeaderCauses, LineReader, take_header, take_line, take_lines};
 pub use hexadecimal::{HexFault, hex};
 pub use lines::{LineFault, Lines};
-pub use numbers::{NumberFault, number};
-pub use words::Words;
+pub use numbers::{NumberFault, number, number_from};
+pub use words::{Words, take_end};
 pub use written::Text;

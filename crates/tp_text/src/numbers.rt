@@ -2,8 +2,10 @@ ghost use Rattle.std.specs.Prelude.{◌≡◌, ◌≤◌, ◌<◌, true, nat_le,
 ghost use Rattle.std.specs.Char.{is_ascii_digit};
 ghost use Rattle.std.specs.List.{list_all};
 ghost use Rattle.std.specs.Str.Parse.{digits_value};
-ghost use Rattle.tp_text.specs.Numbers.{is_number, number_of};
+ghost use Rattle.tp_text.specs.Numbers.{is_number, number_at, number_of};
+ghost use Rattle.tp_text.specs.Reading.{Gives};
 
+use crate::fault::Refusal;
 use thiserror::Error;
 
 /// Why a word is no number of a range.
@@ -64,5 +66,24 @@ pub fn number(word: &[u8], limit: u64) -> Result<u64, NumberFault>
         value(word, limit)
     } else {
         Err(NumberFault::NotANumber)
+    }
+}
+
+/// The decimal number that a word says, from a number to another. Where there is none, the cause that
+/// is given.
+#[tactic(auto, unfolding(crate::specs::Numbers::number_at))]
+pub fn number_from<C: Copy>(word: &[u8], low: u64, high: u64, cause: C) -> Result<u64, Refusal<C>>
+    ensures read { Gives (λ n. n) result (number_at cause low high word.now) }
+    ensures within { IfOk result (λ n. n ≤ high) }
+{
+    match number(word, high) {
+        Ok(n) => {
+            if low <= n {
+                Ok(n)
+            } else {
+                Err(Refusal::Cause(cause))
+            }
+        }
+        Err(_) => Err(Refusal::Cause(cause)),
     }
 }

@@ -1,7 +1,10 @@
 ghost use Rattle.std.specs.Prelude.{◌≡◌, ◌≤◌, ◌^◌, ◌∷◌, [], length, MatchOption, IfNone};
 ghost use Rattle.tp_text.specs.Lines.{IsFirst, words_of};
+ghost use Rattle.tp_text.specs.Reading.{Gives};
+ghost use Rattle.tp_text.specs.Rows.{no_more};
 
 use crate::cut::cut;
+use crate::fault::Refusal;
 use std::marker::Model;
 
 /// The words of a line that are not yet taken, that contracts see as their list.
@@ -72,5 +75,16 @@ impl<'a> Words<'a> {
                 Some(rest)
             }
         }
+    }
+}
+
+/// No further word. Where there is one, the cause that is given.
+#[tactic(auto, unfolding(crate::specs::Rows::no_more))]
+pub fn take_end<C: Copy>(words: &mut Words, cause: C) -> Result<(), Refusal<C>>
+    ensures { Gives (λ _. tt) result (no_more cause words.old) }
+{
+    match words.next_word() {
+        Some(_) => Err(Refusal::Cause(cause)),
+        None => Ok(()),
     }
 }

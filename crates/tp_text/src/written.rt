@@ -1,12 +1,14 @@
 ghost use Rattle.hex.specs.Hex.{encode_lower};
 ghost use Rattle.std.specs.Fmt.{decimal};
 ghost use Rattle.std.specs.Prelude.{◌≡◌, ◌++◌, ◌∷◌, [], false, OnOk};
-ghost use Rattle.tp_text.specs.Writing.{ended, with_word};
+ghost use Rattle.tp_text.specs.Framing.{end_words, header_words};
+ghost use Rattle.tp_text.specs.Names.{actor_word, id_word, site_word};
+ghost use Rattle.tp_text.specs.Writing.{ended, with_word, with_words};
 
 use itoa::Buffer;
 use std::alloc::Global;
 use std::marker::Model;
-use tp_base::{Bytes, NoMemory, Put};
+use tp_base::{ActorName, Bytes, CommandId, NoMemory, Put, Site};
 
 /// A writer of lines of words. It puts the spaces between words.
 #[derive(Debug, Drop)]
@@ -81,6 +83,53 @@ impl Text {
         word.bytes(mark)?;
         put_number(&mut word, n)?;
         self.word(word.finish().as_slice())
+    }
+
+    /// Writes a site's word, behind a mark.
+    fn marked_site(&mut self, mark: &[u8], site: Site) -> Result<(), NoMemory>
+        ensures { OnOk result (self.new ≡ with_word self.old (mark.now ++ site_word site)) }
+    {
+        let partition = u64::from(site.partition.0);
+        self.dotted(mark, partition, u64::from(site.rank.0))
+    }
+
+    pub fn site(&mut self, site: Site) -> Result<(), NoMemory>
+        ensures { OnOk result (self.new ≡ with_word self.old (site_word site)) }
+    {
+        self.marked_site(b"", site)
+    }
+
+    pub fn id(&mut self, id: CommandId) -> Result<(), NoMemory>
+        ensures { OnOk result (self.new ≡ with_word self.old (id_word id)) }
+    {
+        self.dotted(b"", u64::from(id.session.0), u64::from(id.number))
+    }
+
+    pub fn actor(&mut self, actor: ActorName) -> Result<(), NoMemory>
+        ensures { OnOk result (self.new ≡ with_word self.old (actor_word actor)) }
+    {
+        match actor {
+            ActorName::Process(site) => self.marked_site(b"p", site),
+            ActorName::Executor(site) => self.marked_site(b"e", site),
+            ActorName::Session(session) => self.marked(b"s", u64::from(session.0)),
+        }
+    }
+
+    /// Writes the first line of a text of this name.
+    pub fn header(&mut self, name: &[u8]) -> Result<(), NoMemory>
+        ensures { OnOk result (self.new ≡ ended (with_words self.old (header_words name.now))) }
+    {
+        self.word(name)?;
+        self.word(b"1")?;
+        self.end_line()
+    }
+
+    /// Writes the last line of a text.
+    pub fn end(&mut self) -> Result<(), NoMemory>
+        ensures { OnOk result (self.new ≡ ended (with_words self.old end_words)) }
+    {
+        self.word(b"end")?;
+        self.end_line()
     }
 
     /// Writes bytes as a hexadecimal word.
