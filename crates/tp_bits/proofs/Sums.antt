@@ -1,5 +1,6 @@
 -- Sums over the front parts of lists.
 use Rattle.std.proofs.Common.{◌≡◌, ℕ, zero, suc, ◌+◌, ◌<◌, ◌≤◌, Bool, true, false, List, [], ◌∷◌, ◌++◌, length, set, take, Some, refl, sym, ap, ◌∙◌, arith}
+use Rattle.std.proofs.Math.Seq.{take-append_seam}
 use Rattle.std.proofs.lemmas.List.{length-set}
 use Rattle.std.proofs.lemmas.Option.{slice_get_within}
 use Rattle.std.specs.Prelude.{slice_get}
@@ -60,6 +61,10 @@ module _ {X : Type 0} (f : X → ℕ) where
   sum_push_after [] (suc (suc i)) x lt = omega arith
   sum_push_after (y ∷ ys) zero x lt = absurd (omega arith)
   sum_push_after (y ∷ ys) (suc i) x lt = omega (arith, sum_push_after ys i x (omega arith))
+
+-- a list is written back over another that is as long
+pub written_back : {X : Type 0} (xs ys : List X) (n : ℕ) → n ≡ length xs → take n (xs ++ ys) ≡ xs
+written_back {X} xs ys n long = ap (λ (k : ℕ). take k (xs ++ ys)) long ∙ take-append_seam xs ys
 
 pub one_small : (bit : Bool) → one bit ≤ 1
 one_small true = omega arith

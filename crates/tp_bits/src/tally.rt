@@ -23,8 +23,9 @@ pub(crate) fn count_new(counts: &mut Vec<u64>, block: usize, bit: bool) -> Resul
 }
 
 /// Counts a bit that is turned.
-pub(crate) fn count_turned(counts: &mut Vec<u64>, block: usize, bit: bool)
-    ensures { (width : ℕ) (bits : List Bool) (place : ℕ) → IsTally width bits counts.old.items → IsBlockOf width place block → slice_get bits place ≡ Some (not bit) → length bits < 2 ^ 63 → IsTally width (set bits place bit) counts.new.items }
+pub(crate) fn count_turned(counts: &mut [u64], block: usize, bit: bool)
+    ensures length { length counts.new ≡ length counts.old }
+    ensures tally { (width : ℕ) (bits : List Bool) (place : ℕ) → IsTally width bits counts.old → IsBlockOf width place block → slice_get bits place ≡ Some (not bit) → length bits < 2 ^ 63 → IsTally width (set bits place bit) counts.new }
 {
     if block < counts.len() {
         let count = counts[block].saturating_add(u64::from(bit));

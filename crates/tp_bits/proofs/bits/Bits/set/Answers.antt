@@ -3,9 +3,9 @@ use Rattle.std.proofs.lemmas.List.{length-set}
 use Rattle.std.proofs.lemmas.Option.{slice_get-get_or}
 use Rattle.std.specs.Prelude.{slice_get}
 use Rattle.tp_bits.proofs.Searches.{in_block, in_group, other_bit, same_bit}
-use Rattle.tp_bits.proofs.Sums.{one_small, ones_few, ones_set, set_past, set_same}
+use Rattle.tp_bits.proofs.Sums.{one_small, ones_few, ones_set, set_past, set_same, written_back}
 use Rattle.tp_bits.proofs.bits.Bits.set.Goals as goal
-use Rattle.tp_bits.specs.Bits.{AreBits, one}
+use Rattle.tp_bits.specs.Bits.{AreBits, IsTally, one}
 
 pub returns-then-place-len : goal.returns-then-place-len
 returns-then-place-len c = λ bits are.
@@ -25,10 +25,14 @@ returns c = λ bits are.
     ∙ slice_get-get_or c.args.self.now.bits.items c.args.place c.index.result.now lt ∙ ap (λ (b : Bool). Some b) (sym c.index.ensures ∙ other_bit c.index.result.now c.args.bit c.if-index-bit.false) in
     let up : c.from.result ≡ one c.args.bit = search rules in
     let down : c.from-2.result ≡ one (not c.args.bit) = search rules in
+    let blocks : c.args.self.now.blocks.len ≡ length c.count_turned.new.counts = omega (arith, c.args.self.now.blocks.ok.0, c.count_turned.ensures.length, ap length c.deref_mut.ensures.value) in
+    let groups : c.args.self.now.groups.len ≡ length c.count_turned-2.new.counts = omega (arith, c.args.self.now.groups.ok.0, c.count_turned-2.ensures.length, ap length c.deref_mut-2.ensures.value) in
     record {
       items = ap (λ (l : List Bool). set l c.args.place c.args.bit) are.items;
       short = omega (arith, are.short, length-set bits c.args.place c.args.bit);
-      blocks = c.count_turned.ensures 64 bits c.args.place are.blocks (in_block c.args.place) at are.short;
-      groups = c.count_turned-2.ensures 4096 bits c.args.place are.groups (in_group c.args.place) at are.short;
+      blocks = subst (IsTally 64 (set bits c.args.place c.args.bit)) (sym (written_back c.count_turned.new.counts _ _ blocks))
+          (c.count_turned.ensures.tally 64 bits c.args.place (subst (IsTally 64 bits) (sym c.deref_mut.ensures.value) are.blocks) (in_block c.args.place) at are.short);
+      groups = subst (IsTally 4096 (set bits c.args.place c.args.bit)) (sym (written_back c.count_turned-2.new.counts _ _ groups))
+          (c.count_turned-2.ensures.tally 4096 bits c.args.place (subst (IsTally 4096 bits) (sym c.deref_mut-2.ensures.value) are.groups) (in_group c.args.place) at are.short);
       ones = omega (arith, c.saturating_add-ones.ensures, c.saturating_sub-self.ensures, up, down, are.ones, ones_set bits c.args.place c.args.bit (not c.args.bit) at, ones_few bits, are.short, one_small c.args.bit);
     }
