@@ -4,7 +4,7 @@ ghost use Rattle.tp_text.specs.Hexadecimal.{is_hex, nibble, pair_values, hex_of}
 
 use std::alloc::Global;
 use thiserror::Error;
-use tp_base::{Bytes, NoMemory, Sequence};
+use tp_base::{Bytes, NoMemory};
 
 /// Why a word is no hexadecimal.
 #[derive(Clone, Copy, Debug, PartialEq, Eq, Error)]
@@ -43,13 +43,13 @@ fn values(alloc: Global, word: &[u8]) -> Result<Bytes, NoMemory>
     requires { list_all is_hex word.now ≡ true }
     ensures { IfOk result (λ bytes. bytes ≡ pair_values word.now) }
 {
-    let mut bytes = Sequence::new(alloc);
+    let mut bytes = Vec::with_capacity(alloc, word.len() / 2)?;
     let mut rest = word;
     while let [high, low, behind @ ..] = rest {
-        bytes.add(digit_value(*high) * 16 + digit_value(*low))?;
+        bytes.push(digit_value(*high) * 16 + digit_value(*low))?;
         rest = behind;
     }
-    Ok(bytes)
+    Ok(Bytes::from_vec(bytes))
 }
 
 /// The bytes that a hexadecimal word says.
