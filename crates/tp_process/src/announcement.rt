@@ -28,9 +28,9 @@ impl Process {
         ensures outputs { IfOk result (λ outputs. (s : ProcessState) → IsState self.old s → outputs ≡ announced self.old.place.topology self.old.place.site s) }
         ensures state { OnOk result ((s : ProcessState) → IsState self.old s → IsState self.new (all_told s)) }
     {
-        let mut outputs = self.nothing();
         let place = self.place;
         let names = executors_of(self.alloc, &place.topology, place.site.partition)?;
+        let mut outputs = self.room(names.len())?;
         let (lo, hi) = self.clock.tell();
         let untold = mem::replace(&mut self.untold, Sequence::new(self.alloc));
         let pairs = Pairs::new(self.alloc, untold)?;

@@ -74,7 +74,7 @@ impl Process {
     fn agreement(&self, from: ActorName, id: CommandId, ballot: u64) -> Result<Outputs, NoMemory>
         ensures { IfOk result (λ outputs. outputs ≡ message (ActorName.Process self.now.place.site) from (Body.MConsensusAck id ballot) ∷ []) }
     {
-        let mut outputs = self.nothing();
+        let mut outputs = self.room(1)?;
         outputs.add(Message {
             from: self.place.name(),
             to: from,

@@ -70,6 +70,14 @@ impl Process {
         Sequence::new(self.alloc)
     }
 
+    /// What a step sends, with room for so many messages and none yet.
+    pub(crate) fn room(&self, messages: usize) -> Result<Outputs, NoMemory>
+        ensures { IfOk result (λ outputs. outputs ≡ []) }
+    {
+        let room = Vec::with_capacity(self.alloc, messages)?;
+        Ok(Sequence::from_vec(room))
+    }
+
     /// Whether a proposal's stamp would be below the limit.
     pub(crate) fn has_room(&self) -> bool
         ensures { result ≡ nat_lt self.now.clock.clock (the_limit - 1) }

@@ -94,7 +94,7 @@ impl Process {
         requires { (1 ≤ command.now.home.0) × (command.now.home.0 ≤ self.now.place.topology.replicas) }
         ensures { IfOk result (λ outputs. outputs ≡ proposals (ring_rule self.now.place.topology) self.now.place.site command.now stamp.0 ++ bumps self.now.place.topology self.now.place.site (kept_or command.now (sheet_of self.now command.now.id).sheet) stamp.0) }
     {
-        let mut outputs = self.nothing();
+        let mut outputs = self.room(usize::from(self.place.topology.replicas()))?;
         ask_for_proposals(&mut outputs, &self.place, command, stamp)?;
         self.tell_bumps(&mut outputs, command, stamp)?;
         Ok(outputs)
@@ -109,7 +109,7 @@ impl Process {
     ) -> Result<Outputs, NoMemory>
         ensures { IfOk result (λ outputs. outputs ≡ message (ActorName.Process self.now.place.site) from (Body.MProposeAck command.now.id stamp) ∷ bumps self.now.place.topology self.now.place.site (kept_or command.now (sheet_of self.now command.now.id).sheet) stamp.0) }
     {
-        let mut outputs = self.nothing();
+        let mut outputs = self.room(1)?;
         outputs.add(Message {
             from: self.place.name(),
             to: from,
