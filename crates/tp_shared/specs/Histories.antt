@@ -1,8 +1,10 @@
 -- Journals in their own order: whose entries they have, and which entry may come next.
 use Rattle.std.specs.Prelude.{ℕ, List, Option, Some, None, drop, filter, length, reverse}
+use Rattle.std.specs.Option.{option_and_then}
 use Rattle.tp_base.specs.Names.{same_name}
 use Rattle.tp_base.specs.declared.names.ActorName.{ActorName}
 use Rattle.tp_base.specs.declared.names.ActorName.TheVariants.{Process, Executor, Session}
+use Rattle.tp_base.specs.declared.names.Site.{Site}
 use Rattle.tp_journal.specs.Entered.{first_crash}
 use Rattle.tp_rules.specs.Runs.{IsLegal}
 use Rattle.tp_rules.specs.declared.event.Entry.{Entry}
@@ -20,8 +22,12 @@ after opening journal = drop (length opening) journal
 unfoldable pub MayFollow : Script → List Entry → Entry → Type 0
 MayFollow script journal e = IsLegal script (reverse journal) e
 
--- the number of the first entry by which the actor's site crashes; a session has no site
+-- the site of an actor; a session has none
+abbrev pub site_of : ActorName → Option Site
+site_of (Process s) = Some s
+site_of (Executor s) = Some s
+site_of (Session id) = None
+
+-- the number of the first entry by which the actor's site crashes
 abbrev pub crash_of : ActorName → List Entry → Option ℕ
-crash_of (Process s) journal = first_crash s journal
-crash_of (Executor s) journal = first_crash s journal
-crash_of (Session id) journal = None
+crash_of a journal = option_and_then (λ s. first_crash s journal) (site_of a)

@@ -48,12 +48,13 @@ impl Desk {
         ensures run { IsRun self.old.opening.script self.new.seen }
     {
         steps::win(rt, &shared.table.shared, &mut self.seat);
-        self.hand = shared.table.shared.exchange(&mut self.seat, 0, None);
-        if let Some(journal) = &self.hand {
-            self.count = journal.entries().len() as u64;
-            self.crash = crash_after(self.actor, self.crash, journal, self.looked);
-            self.looked = self.count;
-        }
+        let Some(journal) = shared.table.shared.exchange(&mut self.seat, 0, None) else {
+            unreachable!()
+        };
+        self.count = journal.entries().len() as u64;
+        self.crash = crash_after(self.actor, self.crash, &journal, self.looked);
+        self.looked = self.count;
+        self.hand = Some(journal);
     }
 
     /// Puts the journal back, with what the desk entered, and gives the turn up.

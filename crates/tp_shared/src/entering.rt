@@ -18,12 +18,6 @@ pub enum EnterFault {
     NoMemory,
 }
 
-impl From<NoMemory> for EnterFault {
-    fn from(_: NoMemory) -> EnterFault {
-        EnterFault::NoMemory
-    }
-}
-
 impl Desk {
     /// Appends the actor's entry to the journal in hand, and answers its number. It costs what the entry sends.
     pub fn enter(&mut self, event: Event, outputs: Outputs) -> Result<u64, EnterFault>
@@ -37,17 +31,25 @@ impl Desk {
         if let Some(entry) = self.crash {
             return Err(EnterFault::Crashed { entry });
         }
-        let (Some(actor), Some(journal)) = (self.actor, &mut self.hand) else {
+        let (Some(actor), Some(mut journal)) = (self.actor, self.hand.take()) else {
             unreachable!()
         };
-        let number = journal.enter(Entry {
+        match journal.enter(Entry {
             actor,
             event,
             outputs,
-        })?;
-        self.crash = crash_after(self.actor, None, journal, self.looked);
-        self.count = number;
-        self.looked = number;
-        Ok(number)
+        }) {
+            Ok(number) => {
+                self.crash = crash_after(self.actor, None, &journal, self.looked);
+                self.count = number;
+                self.looked = number;
+                self.hand = Some(journal);
+                Ok(number)
+            }
+            Err(NoMemory) => {
+                self.hand = Some(journal);
+                Err(EnterFault::NoMemory)
+            }
+        }
     }
 }

@@ -1,4 +1,4 @@
-ghost use Rattle.std.specs.Prelude.{◌≡◌, ◌≢◌, ◌++◌, true, false, None, IfOk, OnOk, filter};
+ghost use Rattle.std.specs.Prelude.{◌≡◌, ◌≢◌, [], ◌∷◌, ◌++◌, true, false, None, IfOk, OnOk, filter};
 ghost use Rattle.tp_rules.specs.Journal.{numbered};
 ghost use Rattle.tp_shared.specs.Fetched.{is_for, parcels_for};
 ghost use Rattle.tp_shared.specs.Known.{name_of};
@@ -8,6 +8,7 @@ use std::alloc::Global;
 use tp_base::{ActorName, Duplicate, NoMemory};
 use tp_journal::Journal;
 use tp_rules::{Outputs, Parcel, Parcels};
+use tp_wire::Message;
 
 impl Desk {
     /// The outputs that are addressed to the desk's actor, in the entries behind a number. It costs what was entered since.
@@ -54,13 +55,27 @@ fn add_outputs(
         let Some(message) = outputs.get(place) else {
             unreachable!()
         };
-        if message.to == actor {
-            parcels.add(Parcel {
-                entry,
-                place: place as u64 + 1,
-                message: message.copy()?,
-            })?;
-        }
+        add_output(parcels, entry, place as u64 + 1, message, actor)?;
     }
     Ok(())
+}
+
+// Appends an output where it is addressed to an actor.
+fn add_output(
+    parcels: &mut Parcels,
+    entry: u64,
+    place: u64,
+    message: &Message,
+    actor: ActorName,
+) -> Result<(), NoMemory>
+    ensures { OnOk result (parcels.new ≡ parcels.old ++ filter (is_for actor) (record { entry = entry; place = place; message = message.now } ∷ [])) }
+{
+    if message.to != actor {
+        return Ok(());
+    }
+    parcels.add(Parcel {
+        entry,
+        place,
+        message: message.copy()?,
+    })
 }

@@ -1,8 +1,0 @@
-use Rattle.std.proofs.Common.{rules}
-use Rattle.tp_shared.proofs.looking.crash_behind.Goals as goal
-
-pub returns-in-Some : goal.returns-in-Some
-returns-in-Some c = ?
-
-pub returns-in-None : goal.returns-in-None
-returns-in-None c = ?
