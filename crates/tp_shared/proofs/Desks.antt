@@ -12,10 +12,12 @@ use Rattle.tp_base.specs.Lists.{IsPrefixOf}
 use Rattle.tp_base.specs.declared.names.ActorName.{ActorName}
 use Rattle.tp_rules.specs.Runs.{IsRun}
 use Rattle.tp_rules.specs.declared.event.Entry.{Entry}
+use Rattle.tp_rules.specs.declared.event.Event.{Event}
+use Rattle.tp_wire.specs.declared.message.Message.{Message}
 use Rattle.tp_rules.proofs.Journals.{run_more}
 use Rattle.tp_script.specs.declared.script.Script.{Script}
 use Rattle.tp_shared.specs.Histories.{MayFollow}
-use Rattle.tp_shared.specs.Known.{AreBy, HandIs, IsDesk, Known, crash_in, current, entered, holding, known, own_now}
+use Rattle.tp_shared.specs.Known.{AreBy, HandIs, IsDesk, Known, crash_in, current, entered, entry_of, holding, known, name_of, own_now}
 use Rattle.tp_shared.specs.Rule.{Holds, Slot, Tells, first_view}
 use Rattle.tp_shared.specs.Steps.{Looks, Releases, Wins, Won, both, longer, taking}
 use Rattle.tp_shared.specs.declared.view.Start.{Start}
@@ -183,3 +185,21 @@ crash_known v out journal count looked crash actor d =
     let every : looked ≡ count = d.all d.hand_is.0 in
     let long : count ≡ length journal = d.count_is in
     d.crash_is ∙ ap (crash_in v.actor) (take_all looked journal (omega arith))
+
+pub entering_as : (z : TableId) (v : View) (out : List (ℕ × Slot)) (hand : Slot) (journal now : List Entry) (count looked number : ℕ) (crash found : Option ℕ)
+    (actor : Option ActorName) (a : ActorName) (event : Event) (outputs : List Message) (k : Known)
+    → IsDesk v out hand count looked crash actor → hand ≡ Some journal → known z v hand ≡ k → crash ≡ None → actor ≡ Some a
+    → (crash_in k.actor k.seen ≡ None → MayFollow k.opening.script k.seen (entry_of k event outputs))
+    → now ≡ journal ++ record { actor = a; event = event; outputs = outputs } ∷ [] → number ≡ length now → found ≡ crash_in actor now
+    → IsDesk v out (Some now) number number found actor
+entering_as z v out hand journal now count looked number crash found actor a event outputs k desk some view none is legal grown long first =
+    let d : IsDesk v out (Some journal) count looked crash actor = subst (λ (h : Slot). IsDesk v out h count looked crash actor) some desk in
+    let it : k ≡ known z v (Some journal) = sym view ∙ ap (known z v) some in
+    let legalʹ : crash_in v.actor journal ≡ None → MayFollow v.opening.script journal (entry_of (known z v (Some journal)) event outputs) =
+    subst (λ (j : Known). crash_in j.actor j.seen ≡ None → MayFollow j.opening.script j.seen (entry_of j event outputs)) it legal in
+    let name : name_of v.actor ≡ a = ap name_of (sym d.actor_is ∙ is) in
+    let e : Entry = record { actor = a; event = event; outputs = outputs } in
+    let may : MayFollow v.opening.script journal e =
+    subst (λ (n : ActorName). MayFollow v.opening.script journal (record { actor = n; event = event; outputs = outputs })) name
+    (legalʹ (sym (crash_known v out journal count looked crash actor d) ∙ none)) in
+    entered_desk v out journal now count looked number crash found actor a e d is may refl grown long first
