@@ -1,9 +1,8 @@
 -- The outputs of a journal that are addressed to an actor, entry by entry and output by output. Used where a desk fetches them.
-use Rattle.std.proofs.Common.{◌≡◌, ◌+◌, ◌<◌, ◌≤◌, ◌&&◌, ℕ, zero, suc, inl, inr, Bool, true, false, List, [], ◌∷◌, ◌++◌, Some, cond, length, take, filter, reverse, slice_get, nat_lt, refl, sym, ap, subst, ◌∙◌, append_assoc, length-take-le, arith}
-use Rattle.std.proofs.lemmas.Bool.{and_left, cases_Bool, cond-true, cond-false, le-ltb, lt-ltb}
-use Rattle.std.proofs.lemmas.List.{append-nil, length-reverse}
+use Rattle.std.proofs.Common.{◌≡◌, ◌+◌, ◌<◌, ◌≤◌, ◌&&◌, ℕ, zero, suc, Bool, List, [], ◌∷◌, ◌++◌, Some, cond, length, take, filter, reverse, slice_get, nat_lt, refl, sym, ap, subst, ◌∙◌, append_assoc, length-take-le, arith}
+use Rattle.std.proofs.lemmas.Bool.{and_left, le-ltb, lt-ltb}
+use Rattle.std.proofs.lemmas.List.{length-reverse}
 use Rattle.std.proofs.lemmas.List.Elements.{filter-append}
-use Rattle.tp_base.specs.Lists.{IsIn}
 use Rattle.tp_base.specs.declared.names.ActorName.{ActorName}
 use Rattle.tp_rules.proofs.Journals.{sent_more}
 use Rattle.tp_rules.proofs.Parcels.{parcel, sent_within}

@@ -5,6 +5,7 @@ use Rattle.std.specs.List.{position, position_or_len}
 use Rattle.std.specs.Option.{option_and_then}
 use Rattle.std.specs.Prelude.{nat_lt}
 use Rattle.std.proofs.lemmas.Bool.{cases_Bool, cond-true, le-ltb, lt-ltb, ltb-false, ltb-true}
+use Rattle.tp_base.specs.Lists.{IsIn}
 use Rattle.tp_base.specs.declared.names.ActorName.{ActorName}
 use Rattle.tp_base.specs.declared.names.Site.{Site}
 use Rattle.tp_journal.specs.Entered.{first_crash, is_crash_of}
@@ -65,6 +66,20 @@ module _ {X : Type 0} (p : X → Bool) where
       by true is rest = absurd (let wrong : Some 0 ≡ None = sym (here x xs is) ∙ e in cc)
       by false is rest =
           next x (xs ++ ys) is ∙ ap (option_map (λ i. suc i)) (rest (none_of_rest (position p xs) (sym (next x xs is) ∙ e))) ∙ one_more (position p ys)
+
+  -- where there is no first place, nothing passes
+  pub nowhere_passes : (xs : List X) (y : X) → position p xs ≡ None → IsIn y xs → p y ≡ false
+  nowhere_passes [] y e h = absurd h
+  nowhere_passes (x ∷ xs) y e h = by (p x) refl (nowhere_passes xs y) h
+    where
+      none_of_rest : (o : Option ℕ) → option_map (λ i. suc i) o ≡ None → o ≡ None
+      none_of_rest None f = refl
+      none_of_rest (Some j) f = absurd cc
+
+      by : (b : Bool) → p x ≡ b → (position p xs ≡ None → IsIn y xs → p y ≡ false) → IsIn y (x ∷ xs) → p y ≡ false
+      by true is rest k = absurd (let wrong : Some 0 ≡ None = sym (here x xs is) ∙ e in cc)
+      by false is rest (inl same) = ap p same ∙ is
+      by false is rest (inr later) = rest (none_of_rest (position p xs) (sym (next x xs is) ∙ e)) later
 
 -- the first crash of a site
 

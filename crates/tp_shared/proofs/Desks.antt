@@ -1,5 +1,5 @@
 -- What a desk knows after each step. Used by its calls.
-use Rattle.std.proofs.Common.{◌≡◌, ℕ, ◌+◌, ◌<◌, ◌≤◌, Bool, true, false, List, [], ◌∷◌, ◌++◌, Option, Some, None, length, drop, take, refl, sym, ap, subst, ◌∙◌, append_assoc, take_all, le_refl, inl, inr, arith}
+use Rattle.std.proofs.Common.{◌≡◌, ℕ, ◌≤◌, true, false, List, [], ◌∷◌, ◌++◌, Option, Some, None, length, drop, refl, sym, ap, subst, ◌∙◌, append_assoc, take_all, le_refl, inl, inr, arith}
 use Rattle.std.proofs.Math.Seq.{drop-length}
 use Rattle.std.proofs.lemmas.List.{append-nil, drop-append-le}
 use Rattle.std.proofs.lemmas.Bool.{le-leb}
@@ -157,8 +157,10 @@ entered_desk v out journal now count looked number crash found actor a e d is le
     let toldʹ : Tells v.opening (journal ++ e ∷ []) v.actor (v.own ++ drop (length v.seen) (journal ++ e ∷ [])) v.listed v.kept =
     subst (λ (p : Option ActorName × List Entry). Tells v.opening (journal ++ e ∷ []) p.0 p.1 v.listed v.kept) (λ i. (sym named i, sym (own_more v journal e grows) i)) told in
     let hand : HandIs v out (Some (journal ++ e ∷ [])) = (
-      d.hand_is.0, d.hand_is.1, prefix_more v.seen journal (e ∷ []) grows,
-      subst (AreBy v.actor) (sym later) (by_one_more v.actor a (drop (length v.seen) journal) e named d.hand_is.3 same)
+      d.hand_is.0,
+      d.hand_is.1,
+      prefix_more v.seen journal (e ∷ []) grows,
+      subst (AreBy v.actor) (sym later) (by_one_more v.actor a (drop (length v.seen) journal) e named d.hand_is.3 same),
     ) in
     record {
       lives = d.lives;

@@ -1,5 +1,5 @@
 -- A desk is joined to the first. Used by the step of that name, and by the call.
-use Rattle.std.proofs.Common.{◌≡◌, ◌≢◌, ◌⊎◌, ◌≤◌, ℕ, zero, suc, inl, inr, Bool, true, false, not, List, [], ◌∷◌, ◌++◌, Option, Some, None, length, set, nat_le, refl, sym, ap, subst, ◌∙◌, arith}
+use Rattle.std.proofs.Common.{◌≡◌, ◌≢◌, ◌⊎◌, ◌≤◌, ℕ, inl, inr, true, false, not, List, [], ◌∷◌, ◌++◌, Option, Some, None, length, set, nat_le, refl, sym, ap, subst, ◌∙◌, arith}
 use Rattle.std.proofs.lemmas.Bool.{cond_both, leb-true, leb-false}
 use native.Mathlib.Decide.{ℕ_discrete}
 use mathlib.Core.Logic.{dite}
@@ -18,7 +18,7 @@ use Rattle.tp_base.specs.declared.names.ActorName.{ActorName}
 use Rattle.tp_rules.specs.Runs.{IsRun}
 use Rattle.tp_rules.specs.declared.event.Entry.{Entry}
 use Rattle.tp_shared.specs.Histories.{after, entries_by}
-use Rattle.tp_shared.specs.Rule.{AreApart, Crowd, Fits, Holds, IsFree, IsTaken, Keeps, Made, Slot, StandsFor, Tells}
+use Rattle.tp_shared.specs.Rule.{Crowd, Fits, Holds, Made, Slot, StandsFor}
 use Rattle.tp_shared.specs.Steps.{both, gone, keeping, longer}
 use Rattle.tp_shared.specs.declared.view.Start.{Start}
 use Rattle.tp_shared.specs.declared.view.View.{View}
@@ -66,7 +66,9 @@ module _ (opening : Start) (v w : View) (lives : v.spent ≡ false) (livesʹ : w
         same = fits.same;
         prefix = mid.below;
         now = record {
-          begins = fits.now.begins; run = fits.now.run; own_is = fits.now.own_is;
+          begins = fits.now.begins;
+          run = fits.now.run;
+          own_is = fits.now.own_is;
           kept_is = λ p h. elim (in_push_cases v.kept (b, w.own) p h) [
             | inl old ↦ fits.now.kept_is p old
             | inr is ↦ subst (λ (q : Made). q.1 ≡ entries_by q.0 (after opening.journal journal)) (sym is) (fitsʹ.now.own_is b named)
@@ -75,7 +77,8 @@ module _ (opening : Start) (v w : View) (lives : v.spent ≡ false) (livesʹ : w
           strangers = fits.now.strangers;
         };
         known = record {
-          begins = mid.begins; run = mid.run;
+          begins = mid.begins;
+          run = mid.run;
           own_is = λ a e. absurd (let wrong : None ≡ Some a = sym free ∙ e in cc);
           kept_is = λ p h. elim (in_push_cases v.kept (b, w.own) p h) [
             | inl old ↦
@@ -92,9 +95,9 @@ module _ (opening : Start) (v w : View) (lives : v.spent ≡ false) (livesʹ : w
         heard = λ xs h. elim h [
           | inl is ↦ subst (λ (l : List Entry). IsPrefixOf l journal) (sym is) fits.prefix
           | inr rest ↦ elim rest [
-              | inl is ↦ subst (λ (l : List Entry). IsPrefixOf l journal) (sym is) fitsʹ.prefix
-              | inr old ↦ fits.heard xs old
-            ]
+            | inl is ↦ subst (λ (l : List Entry). IsPrefixOf l journal) (sym is) fitsʹ.prefix
+            | inr old ↦ fits.heard xs old
+          ]
         ];
         apart = ascends_push (λ (p q : Made). not (same_name p.0 q.0)) v.kept (b, w.own) fits.apart
             (each_of (λ (p : Made). not (same_name p.0 b) ≡ true) v.kept (λ p h. ap not (same_name_not p.0 b (new p h))));
@@ -115,9 +118,9 @@ module _ (opening : Start) (v w : View) (lives : v.spent ≡ false) (livesʹ : w
     came j u e live = elim (at_set (set views 0 one) other j gone u e) [
       | inl here ↦ let wrong : true ≡ false = ap (λ (x : View). x.spent) here.1 ∙ live in absurd cc
       | inr far ↦ elim (at_set views 0 j one u far.1) [
-          | inl here ↦ inl here
-          | inr old ↦ inr (old.0, far.0, old.1)
-        ]
+        | inl here ↦ inl here
+        | inr old ↦ inr (old.0, far.0, old.1)
+      ]
     ]
 
     stay : (j : ℕ) (u : View) → j ≢ 0 → j ≢ other → get_elem? views j ≡ some u → get_elem? joined_views j ≡ some u
@@ -175,23 +178,26 @@ module _ (opening : Start) (v w : View) (lives : v.spent ≡ false) (livesʹ : w
         | inl here ↦ subst (Fits opening journal) here.1 (fits_one journal (crowd.each 0 v there lives) (crowd.each other w thereʹ livesʹ) new_kept)
         | inr old ↦ crowd.each j u old.2 live
       ];
-      first = one; first_there = first_stays; first_lives = lives; first_free = free;
-      only = λ j u e live none. elim (came j u e live) [ | inl here ↦ here.0 | inr old ↦ crowd.only j u old.2 live none ];
+      first = one;
+      first_there = first_stays;
+      first_lives = lives;
+      first_free = free;
+      only = λ j u e live none. elim (came j u e live) [ inl here ↦ here.0 | inr old ↦ crowd.only j u old.2 live none ];
       apart = λ i j u x a e f live liveʹ h k. elim (came i u e live) [
         | inl here ↦ elim (came j x f liveʹ) [
-            | inl hereʹ ↦ here.0 ∙ sym hereʹ.0
-            | inr oldʹ ↦ absurd (alone j x a oldʹ liveʹ (subst (λ (y : View). StandsFor y a) (sym here.1) h) k)
-          ]
+          | inl hereʹ ↦ here.0 ∙ sym hereʹ.0
+          | inr oldʹ ↦ absurd (alone j x a oldʹ liveʹ (subst (λ (y : View). StandsFor y a) (sym here.1) h) k)
+        ]
         | inr old ↦ elim (came j x f liveʹ) [
-            | inl hereʹ ↦ absurd (alone i u a old live (subst (λ (y : View). StandsFor y a) (sym hereʹ.1) k) h)
-            | inr oldʹ ↦ crowd.apart i j u x a old.2 oldʹ.2 live liveʹ h k
-          ]
+          | inl hereʹ ↦ absurd (alone i u a old live (subst (λ (y : View). StandsFor y a) (sym hereʹ.1) k) h)
+          | inr oldʹ ↦ crowd.apart i j u x a old.2 oldʹ.2 live liveʹ h k
+        ]
       ];
       listed = λ j u a e live h. subst (λ (x : View). has same_name a x.listed ≡ true) (sym is_first) (elim (came j u e live) [
         | inl here ↦ elim (stood a (subst (λ (y : View). StandsFor y a) (sym here.1) h)) [
-            | inl mine ↦ crowd.listed 0 v a there lives mine
-            | inr its ↦ crowd.listed other w a thereʹ livesʹ its
-          ]
+          | inl mine ↦ crowd.listed 0 v a there lives mine
+          | inr its ↦ crowd.listed other w a thereʹ livesʹ its
+        ]
         | inr old ↦ crowd.listed j u a old.2 live h
       ]);
       covers = covered;
@@ -199,33 +205,42 @@ module _ (opening : Start) (v w : View) (lives : v.spent ≡ false) (livesʹ : w
 
   joins_first : (other : ℕ) → other ≢ 0 → (s : State Slot View) → Holds opening s → get_elem? s.views 0 ≡ some v → get_elem? s.views other ≡ some w
       → Holds opening (record { words = s.words; homes = s.homes; views = set (set s.views 0 one) other gone })
-  joins_first other apart s (journal, kept) there thereʹ = (journal, record {
-    turn = elim kept.turn [
-      | inl still ↦ inl (record {
-          words = still.words; homes = still.homes;
+  joins_first other apart s (journal, kept) there thereʹ = (
+    journal,
+    record {
+      turn = elim kept.turn [
+        | inl still ↦ inl (record {
+          words = still.words;
+          homes = still.homes;
           nobody = λ j u e live. elim (came other apart journal s.views kept.crowd there thereʹ j u e live) [
             | inl here ↦ ap (λ (x : View). x.holds) (sym here.1) ∙ waits
             | inr old ↦ still.nobody j u old.2 live
           ];
         })
-      | inr taken ↦
-          let not_at : (i : ℕ) (x : View) → get_elem? s.views i ≡ some x → x.holds ≡ false → taken.place ≢ i = (λ i x e waiting at.
-          let same : taken.holder ≡ x = some-injective taken.holder x (sym taken.there ∙ ap (get_elem? s.views) at ∙ e) in
-          let no : taken.holder.holds ≡ false = ap (λ (y : View). y.holds) same ∙ waiting in
-          let has_it : taken.holder.holds ≡ true = taken.holds in
-          absurd cc) in
-          inr (record {
-            words = taken.words; homes = taken.homes; place = taken.place; holder = taken.holder;
-            there = stay other apart journal s.views kept.crowd there thereʹ taken.place taken.holder (not_at 0 v there waits) (not_at other w thereʹ waitsʹ) taken.there;
-            lives = taken.lives; holds = taken.holds; seen = taken.seen;
-            alone = λ j u e live has_it. elim (came other apart journal s.views kept.crowd there thereʹ j u e live) [
-              | inl here ↦ let no : u.holds ≡ false = ap (λ (x : View). x.holds) (sym here.1) ∙ waits in absurd cc
-              | inr old ↦ taken.alone j u old.2 live has_it
-            ];
-          })
-    ];
-    crowd = crowd_joined other apart journal s.views kept.crowd there thereʹ;
-  })
+        | inr taken ↦
+            let not_at : (i : ℕ) (x : View) → get_elem? s.views i ≡ some x → x.holds ≡ false → taken.place ≢ i = (λ i x e waiting at.
+            let same : taken.holder ≡ x = some-injective taken.holder x (sym taken.there ∙ ap (get_elem? s.views) at ∙ e) in
+            let no : taken.holder.holds ≡ false = ap (λ (y : View). y.holds) same ∙ waiting in
+            let has_it : taken.holder.holds ≡ true = taken.holds in
+            absurd cc) in
+            inr (record {
+              words = taken.words;
+              homes = taken.homes;
+              place = taken.place;
+              holder = taken.holder;
+              there = stay other apart journal s.views kept.crowd there thereʹ taken.place taken.holder (not_at 0 v there waits) (not_at other w thereʹ waitsʹ) taken.there;
+              lives = taken.lives;
+              holds = taken.holds;
+              seen = taken.seen;
+              alone = λ j u e live has_it. elim (came other apart journal s.views kept.crowd there thereʹ j u e live) [
+                | inl here ↦ let no : u.holds ≡ false = ap (λ (x : View). x.holds) (sym here.1) ∙ waits in absurd cc
+                | inr old ↦ taken.alone j u old.2 live has_it
+              ];
+            })
+      ];
+      crowd = crowd_joined other apart journal s.views kept.crowd there thereʹ;
+    },
+  )
 
 -- a desk that isn't the first has an actor
 named_by : (o : Option ActorName) → (o ≡ None → ⊥) → (b : ActorName) × (o ≡ Some b)

@@ -6,3 +6,4 @@ pub mod Joins
 pub mod Crashes
 pub mod Desks
 pub mod Addressed
+pub mod Legality

@@ -1,10 +1,10 @@
 -- What a journal shows of an actor, and how that changes as the journal grows. Used by each step on the turn word.
-use Rattle.std.proofs.Common.{◌≡◌, ℕ, zero, suc, ◌+◌, ◌≤◌, inl, inr, Bool, true, false, List, [], ◌∷◌, ◌++◌, Option, Some, None, length, drop, filter, refl, sym, ap, subst, ◌∙◌, append_assoc, length-append, arith}
+use Rattle.std.proofs.Common.{◌≡◌, ◌+◌, ◌≤◌, true, false, List, [], ◌∷◌, ◌++◌, Option, Some, None, length, drop, refl, sym, ap, subst, ◌∙◌, length-append, arith}
 use Rattle.std.proofs.Math.Seq.{drop-append_seam}
 use Rattle.std.proofs.lemmas.List.{append-nil, drop-append-le}
 use Rattle.std.proofs.lemmas.List.Elements.{filter-append}
 use Rattle.std.proofs.lemmas.Bool.{cond-true, cond-false}
-use Rattle.tp_base.proofs.Prefixes.{prefix_more, prefix_self, prefix_then}
+use Rattle.tp_base.proofs.Prefixes.{prefix_more, prefix_then}
 use Rattle.tp_base.proofs.SameNames.{same_name_not, same_name_refl}
 use Rattle.tp_base.specs.Lists.{Each, IsIn, IsPrefixOf, has}
 use Rattle.tp_base.specs.Names.{same_name}

@@ -1,5 +1,5 @@
 -- A desk is split off the first. Used by the step of that name.
-use Rattle.std.proofs.Common.{◌≡◌, ◌≢◌, ◌⊎◌, ℕ, zero, suc, inl, inr, Bool, true, false, List, [], ◌∷◌, ◌++◌, Option, Some, None, length, set, refl, sym, ap, subst, ◌∙◌, arith}
+use Rattle.std.proofs.Common.{◌≡◌, ◌≢◌, ◌⊎◌, ℕ, zero, suc, inl, inr, true, false, List, [], ◌∷◌, ◌++◌, Some, None, length, set, refl, sym, ap, subst, ◌∙◌}
 use Rattle.std.proofs.lemmas.Bool.{cases_Bool}
 use native.Mathlib.Decide.{ℕ_discrete}
 use mathlib.Core.Logic.{dite}
@@ -9,12 +9,12 @@ use Rattle.atomic_table.specs.Table.{State, Splits}
 use Rattle.atomic_table.proofs.Lists.{at_last, at_longer, at_set, set_else}
 use Rattle.tp_base.proofs.Members.{has_cases, has_head, has_in, has_right, in_one}
 use Rattle.tp_base.proofs.SameNames.{same_name_is, same_name_refl}
-use Rattle.tp_base.specs.Lists.{IsIn, has}
+use Rattle.tp_base.specs.Lists.{has}
 use Rattle.tp_base.specs.Names.{same_name}
 use Rattle.tp_base.specs.declared.names.ActorName.{ActorName}
 use Rattle.tp_rules.specs.declared.event.Entry.{Entry}
 use Rattle.tp_shared.specs.Histories.{after, entries_by}
-use Rattle.tp_shared.specs.Rule.{Crowd, Fits, Holds, IsFree, IsTaken, Keeps, Made, Slot, StandsFor, Tells}
+use Rattle.tp_shared.specs.Rule.{Crowd, Fits, Holds, Slot, StandsFor, Tells}
 use Rattle.tp_shared.specs.Steps.{listing, newcomer}
 use Rattle.tp_shared.specs.declared.view.Start.{Start}
 use Rattle.tp_shared.specs.declared.view.View.{View}
@@ -25,7 +25,7 @@ at_snoc_place : {X : Type 0} (l : List X) (x y : X) (j : ℕ) → get_elem? (l +
 at_snoc_place [] x y zero e = inr (refl, some-injective x y e)
 at_snoc_place [] x y (suc j) e = absurd (some-ne-none y (sym e))
 at_snoc_place (z ∷ l) x y zero e = inl e
-at_snoc_place (z ∷ l) x y (suc j) e = elim (at_snoc_place l x y j e) [ | inl h ↦ inl h | inr h ↦ inr ((λ i. suc (h.0 i)), h.1) ]
+at_snoc_place (z ∷ l) x y (suc j) e = elim (at_snoc_place l x y j e) [ inl h ↦ inl h | inr h ↦ inr ((λ i. suc (h.0 i)), h.1) ]
 
 has_back : (a b : ActorName) (l : List ActorName) → has same_name b (a ∷ l) ≡ false → has same_name b l ≡ false
 has_back a b l h = elim (cases_Bool (has same_name b l)) [
@@ -53,7 +53,11 @@ module _ (opening : Start) (v : View) (a : ActorName) (lives : v.spent ≡ false
     where
       longer_list : (xs : List Entry) → Tells opening xs v.actor v.own v.listed v.kept → Tells opening xs v.actor v.own (a ∷ v.listed) v.kept
       longer_list xs t = record {
-        begins = t.begins; run = t.run; own_is = t.own_is; kept_is = t.kept_is; kept_none = t.kept_none;
+        begins = t.begins;
+        run = t.run;
+        own_is = t.own_is;
+        kept_is = t.kept_is;
+        kept_none = t.kept_none;
         strangers = λ e b h. t.strangers e b (has_back a b v.listed h);
       }
 
@@ -69,11 +73,14 @@ module _ (opening : Start) (v : View) (a : ActorName) (lives : v.spent ≡ false
     where
       nothing_yet : (xs : List Entry) → Tells opening xs v.actor v.own v.listed v.kept → Tells opening xs (Some a) [] [] []
       nothing_yet xs t = record {
-        begins = t.begins; run = t.run;
+        begins = t.begins;
+        run = t.run;
         own_is = λ b e.
             let same : a ≡ b = cc in
             sym (subst (λ (c : ActorName). entries_by c (after opening.journal xs) ≡ []) same (t.strangers free a fresh));
-        kept_is = λ p h. absurd h; kept_none = λ b e. refl; strangers = λ e b h. absurd cc;
+        kept_is = λ p h. absurd h;
+        kept_none = λ b e. refl;
+        strangers = λ e b h. absurd cc;
       }
 
   module _ (journal : List Entry) (views : List View) (crowd : Crowd opening journal views) (there : get_elem? views 0 ≡ some v) where
@@ -94,11 +101,17 @@ module _ (opening : Start) (v : View) (a : ActorName) (lives : v.spent ≡ false
     came j u e live = elim (at_snoc_place (set views 0 left) right u j e) [
       | inr new ↦ inr new
       | inl old ↦ elim (at_set views 0 j left u old) [
-          | inr other ↦ inl (u, other.1, live, refl, refl, (λ b h. h))
-          | inl here ↦
-              inl (v, subst (λ (k : ℕ). get_elem? views k ≡ some v) (sym here.0) there, lives, ap (λ (x : View). x.holds) (sym here.1), ap (λ (x : View). x.actor) (sym here.1),
-              (λ b h. subst (λ (x : View). StandsFor x b) (sym here.1) h))
-        ]
+        | inr other ↦ inl (u, other.1, live, refl, refl, (λ b h. h))
+        | inl here ↦
+            inl (
+              v,
+              subst (λ (k : ℕ). get_elem? views k ≡ some v) (sym here.0) there,
+              lives,
+              ap (λ (x : View). x.holds) (sym here.1),
+              ap (λ (x : View). x.actor) (sym here.1),
+              (λ b h. subst (λ (x : View). StandsFor x b) (sym here.1) h),
+            )
+      ]
     ]
 
     new_name : (b : ActorName) → StandsFor right b → a ≡ b
@@ -143,24 +156,27 @@ module _ (opening : Start) (v : View) (a : ActorName) (lives : v.spent ≡ false
       each = λ j u e live. elim (at_snoc_place (set views 0 left) right u j e) [
         | inr new ↦ subst (Fits opening journal) new.1 (fits_right journal (crowd.each 0 v there lives))
         | inl old ↦ elim (at_set views 0 j left u old) [
-            | inl here ↦ subst (Fits opening journal) here.1 (fits_left journal (crowd.each 0 v there lives))
-            | inr other ↦ crowd.each j u other.1 live
-          ]
+          | inl here ↦ subst (Fits opening journal) here.1 (fits_left journal (crowd.each 0 v there lives))
+          | inr other ↦ crowd.each j u other.1 live
+        ]
       ];
-      first = left; first_there = first_stays; first_lives = lives; first_free = free;
+      first = left;
+      first_there = first_stays;
+      first_lives = lives;
+      first_free = free;
       only = λ j u e live none. elim (came j u e live) [
         | inl old ↦ crowd.only j old.0 old.1 old.2 (sym old.4 ∙ none)
         | inr new ↦ let named : Some a ≡ None = ap (λ (x : View). x.actor) new.1 ∙ none in absurd cc
       ];
       apart = λ i j u x b e f live liveʹ h k. elim (came i u e live) [
         | inl old ↦ elim (came j x f liveʹ) [
-            | inl oldʹ ↦ crowd.apart i j old.0 oldʹ.0 b old.1 oldʹ.1 old.2 oldʹ.2 (old.5 b h) (oldʹ.5 b k)
-            | inr newʹ ↦ absurd (strange i j u x b old newʹ h k)
-          ]
+          | inl oldʹ ↦ crowd.apart i j old.0 oldʹ.0 b old.1 oldʹ.1 old.2 oldʹ.2 (old.5 b h) (oldʹ.5 b k)
+          | inr newʹ ↦ absurd (strange i j u x b old newʹ h k)
+        ]
         | inr new ↦ elim (came j x f liveʹ) [
-            | inl oldʹ ↦ absurd (strange j i x u b oldʹ new k h)
-            | inr newʹ ↦ new.0 ∙ sym newʹ.0
-          ]
+          | inl oldʹ ↦ absurd (strange j i x u b oldʹ new k h)
+          | inr newʹ ↦ new.0 ∙ sym newʹ.0
+        ]
       ];
       listed = λ j u b e live h. elim (came j u e live) [
         | inl old ↦
@@ -174,33 +190,42 @@ module _ (opening : Start) (v : View) (a : ActorName) (lives : v.spent ≡ false
 
   cuts_first : (s : State Slot View) → Holds opening s → get_elem? s.views 0 ≡ some v
       → Holds opening (record { words = s.words; homes = s.homes; views = set s.views 0 left ++ right ∷ [] })
-  cuts_first s (journal, kept) there = (journal, record {
-    turn = elim kept.turn [
-      | inl still ↦ inl (record {
-          words = still.words; homes = still.homes;
+  cuts_first s (journal, kept) there = (
+    journal,
+    record {
+      turn = elim kept.turn [
+        | inl still ↦ inl (record {
+          words = still.words;
+          homes = still.homes;
           nobody = λ j u e live. elim (came journal s.views kept.crowd there j u e live) [
             | inl old ↦ old.3 ∙ still.nobody j old.0 old.1 old.2
             | inr new ↦ ap (λ (x : View). x.holds) (sym new.1)
           ];
         })
-      | inr taken ↦
-          let away : taken.place ≢ 0 = (λ zeroth.
-          let same : taken.holder ≡ v = some-injective taken.holder v (sym taken.there ∙ ap (get_elem? s.views) zeroth ∙ there) in
-          let not : taken.holder.holds ≡ false = ap (λ (x : View). x.holds) same ∙ waits in
-          let has_it : taken.holder.holds ≡ true = taken.holds in
-          absurd cc) in
-          inr (record {
-            words = taken.words; homes = taken.homes; place = taken.place; holder = taken.holder;
-            there = stay journal s.views kept.crowd there taken.place taken.holder away taken.there;
-            lives = taken.lives; holds = taken.holds; seen = taken.seen;
-            alone = λ j u e live has_it. elim (came journal s.views kept.crowd there j u e live) [
-              | inl old ↦ taken.alone j old.0 old.1 old.2 (sym old.3 ∙ has_it)
-              | inr new ↦ let not : false ≡ true = ap (λ (x : View). x.holds) new.1 ∙ has_it in absurd cc
-            ];
-          })
-    ];
-    crowd = crowd_split journal s.views kept.crowd there;
-  })
+        | inr taken ↦
+            let away : taken.place ≢ 0 = (λ zeroth.
+            let same : taken.holder ≡ v = some-injective taken.holder v (sym taken.there ∙ ap (get_elem? s.views) zeroth ∙ there) in
+            let not : taken.holder.holds ≡ false = ap (λ (x : View). x.holds) same ∙ waits in
+            let has_it : taken.holder.holds ≡ true = taken.holds in
+            absurd cc) in
+            inr (record {
+              words = taken.words;
+              homes = taken.homes;
+              place = taken.place;
+              holder = taken.holder;
+              there = stay journal s.views kept.crowd there taken.place taken.holder away taken.there;
+              lives = taken.lives;
+              holds = taken.holds;
+              seen = taken.seen;
+              alone = λ j u e live has_it. elim (came journal s.views kept.crowd there j u e live) [
+                | inl old ↦ taken.alone j old.0 old.1 old.2 (sym old.3 ∙ has_it)
+                | inr new ↦ let not : false ≡ true = ap (λ (x : View). x.holds) new.1 ∙ has_it in absurd cc
+              ];
+            })
+      ];
+      crowd = crowd_split journal s.views kept.crowd there;
+    },
+  )
 
   pub cuts : (id : ℕ) → Splits (Holds opening) id v (listing a v) (newcomer a v)
   cuts id s holds there =

@@ -1,5 +1,5 @@
 -- The turn is taken, given back, or looked at. Used by the steps on the turn word.
-use Rattle.std.proofs.Common.{◌≡◌, ◌≢◌, ◌⊎◌, ◌<◌, ℕ, zero, suc, inl, inr, Bool, true, false, List, [], ◌∷◌, ◌++◌, Option, Some, None, MatchBool, ◌==◌, nat_le, length, drop, set, refl, sym, ap, subst, ◌∙◌, arith}
+use Rattle.std.proofs.Common.{◌≡◌, ◌≢◌, ℕ, zero, suc, inl, inr, true, false, List, [], ◌∷◌, ◌++◌, Some, None, ◌==◌, length, drop, refl, sym, ap, subst, ◌∙◌}
 use Rattle.std.specs.Prelude.{slice_index, slice_set}
 use Rattle.std.proofs.Math.Seq.{drop-length}
 use Rattle.std.proofs.lemmas.Bool.{cases_Bool, leb-true}
@@ -9,20 +9,20 @@ use prog.Atomic.{either}
 use lib.ListN.{get_elem?}
 use Rattle.atomic_table.specs.Table.{State, Me, Step, Act, step, keeps, takes, gives, carried_after, Valid, stepped, Allows}
 use Rattle.atomic_table.specs.Table.{opening as table_opening}
-use Rattle.atomic_table.proofs.Lists.{set_again, set_else, at_set}
+use Rattle.atomic_table.proofs.Lists.{set_again, at_set}
 use Rattle.tp_base.proofs.Prefixes.{prefix_self, prefix_more, prefix_then}
-use Rattle.tp_base.specs.Lists.{IsIn, IsPrefixOf, has}
+use Rattle.tp_base.specs.Lists.{IsPrefixOf, has}
 use Rattle.tp_base.specs.Names.{same_name}
 use Rattle.tp_base.specs.declared.names.ActorName.{ActorName}
 use Rattle.tp_rules.specs.Runs.{IsRun}
 use Rattle.tp_rules.specs.declared.event.Entry.{Entry}
-use Rattle.tp_shared.specs.Histories.{after, entries_by}
+use Rattle.tp_shared.specs.Histories.{entries_by}
 use Rattle.tp_shared.specs.Known.{AreBy}
-use Rattle.tp_shared.specs.Rule.{Crowd, Fits, Holds, IsFree, IsTaken, Keeps, KeepsListOf, Made, Slot, StandsFor, Tells, first_view}
-use Rattle.tp_shared.specs.Steps.{Acquires, Looked, Looks, Releases, Won, in_slot, journal_or, putting, taking}
+use Rattle.tp_shared.specs.Rule.{Crowd, Fits, Holds, IsFree, IsTaken, Slot, StandsFor, Tells, first_view}
+use Rattle.tp_shared.specs.Steps.{Acquires, Looked, Releases, putting, taking}
 use Rattle.tp_shared.specs.declared.view.Start.{Start}
 use Rattle.tp_shared.specs.declared.view.View.{View}
-use Rattle.tp_shared.proofs.Crowds.{Alike, alike_self, crowd_set, set_at}
+use Rattle.tp_shared.proofs.Crowds.{Alike, crowd_set, set_at}
 use Rattle.tp_shared.proofs.Shown.{others_none, rest_is, shorter_begins, tells_more}
 
 -- what the plays here ignore
@@ -50,38 +50,68 @@ module _ (opening : Start) (slots id : ℕ) (v : View) (lives : v.spent ≡ fals
       let w : View = taking v journal in
       let alike : Alike v w = record { lives = lives; actor = refl; kept = refl; listed = refl } in
       let fitted : Fits opening journal w = record {
-        same = fits.same; prefix = prefix_self journal; now = fits.now; known = fits.now; heard = fits.heard; apart = fits.apart
+        same = fits.same;
+        prefix = prefix_self journal;
+        now = fits.now;
+        known = fits.now;
+        heard = fits.heard;
+        apart = fits.apart;
       } in
       let shows : Tells v.opening journal v.actor v.own v.listed v.kept = subst (λ (o : Start). Tells o journal v.actor v.own v.listed v.kept) (sym fits.same) fits.now in
-      by_parts (Allowed (Holds opening) id (v, []) (λ n. either (n == 0) 1 n) (Acquires mute (v, []))) s (0 ∷ []) (some (Some journal) ∷ []) free.words free.homes
-      (w, takes 0 (Some journal), refl,
-      (journal, record {
-        turn = inr (record {
-          words = refl; homes = refl; place = id; holder = w; there = set_at s.views id v w there; lives = lives; holds = refl; seen = refl;
-          alone = λ j u e live has. elim (at_set s.views id j w u e) [
-            | inl here ↦ here.0
-            | inr other ↦ let not : u.holds ≡ false = free.nobody j u other.1 live in absurd cc
-          ];
-        });
-        crowd = crowd_set s.views id v w there lives alike opening journal journal crowd fitted (λ j u apart e live. crowd.each j u e live);
-      }),
-      (refl, record { grows = fits.prefix; shows = shows }))
+      by_parts (Allowed (Holds opening) id (v, []) (λ n. either (n == 0) 1 n) (Acquires mute (v, []))) s (0 ∷ []) (some (Some journal) ∷ []) free.words free.homes (
+        w,
+        takes 0 (Some journal),
+        refl,
+        (
+          journal,
+          record {
+            turn = inr (record {
+              words = refl;
+              homes = refl;
+              place = id;
+              holder = w;
+              there = set_at s.views id v w there;
+              lives = lives;
+              holds = refl;
+              seen = refl;
+              alone = λ j u e live has. elim (at_set s.views id j w u e) [
+                | inl here ↦ here.0
+                | inr other ↦ let not : u.holds ≡ false = free.nobody j u other.1 live in absurd cc
+              ];
+            });
+            crowd = crowd_set s.views id v w there lives alike opening journal journal crowd fitted (λ j u apart e live. crowd.each j u e live);
+          },
+        ),
+        (refl, record { grows = fits.prefix; shows = shows }),
+      )
 
   waits_on : (journal : List Entry) (s : State Slot View) → IsTaken journal s → Crowd opening journal s.views → get_elem? s.views id ≡ some v
       → Allowed (Holds opening) id (v, []) (λ n. either (n == 0) 1 n) (Acquires mute (v, [])) s
   waits_on journal s taken crowd there =
-      let keeps_on : Holds opening (record { words = 1 ∷ []; homes = none ∷ []; views = s.views }) =
-      (journal, record {
-        turn = inr (record {
-          words = refl; homes = refl; place = taken.place; holder = taken.holder; there = taken.there; lives = taken.lives; holds = taken.holds;
-          seen = taken.seen; alone = taken.alone;
-        });
-        crowd = crowd;
-      }) in
-      by_parts (Allowed (Holds opening) id (v, []) (λ n. either (n == 0) 1 n) (Acquires mute (v, []))) s (1 ∷ []) (none ∷ []) taken.words taken.homes
-      (v, keeps, tt,
-      subst (λ (l : List View). Holds opening (record { words = 1 ∷ []; homes = none ∷ []; views = l })) (sym (set_again s.views id v there)) keeps_on,
-      refl)
+      let keeps_on : Holds opening (record { words = 1 ∷ []; homes = none ∷ []; views = s.views }) = (
+        journal,
+        record {
+          turn = inr (record {
+            words = refl;
+            homes = refl;
+            place = taken.place;
+            holder = taken.holder;
+            there = taken.there;
+            lives = taken.lives;
+            holds = taken.holds;
+            seen = taken.seen;
+            alone = taken.alone;
+          });
+          crowd = crowd;
+        },
+      ) in
+      by_parts (Allowed (Holds opening) id (v, []) (λ n. either (n == 0) 1 n) (Acquires mute (v, []))) s (1 ∷ []) (none ∷ []) taken.words taken.homes (
+        v,
+        keeps,
+        tt,
+        subst (λ (l : List View). Holds opening (record { words = 1 ∷ []; homes = none ∷ []; views = l })) (sym (set_again s.views id v there)) keeps_on,
+        refl,
+      )
 
   acquires_here : Allows (Holds opening) slots id (v, []) 0 (λ n. either (n == 0) 1 n) (Acquires mute (v, []))
   acquires_here s (journal, kept) long there small = elim kept.turn [
@@ -139,8 +169,12 @@ module _ (opening : Start) (slots id : ℕ) (v : View) (journal : List Entry) (l
       let w : View = putting v journal in
       let alike : Alike v w = record { lives = lives; actor = refl; kept = refl; listed = refl } in
       let fitted : Fits opening journal w = record {
-        same = fits.same; prefix = prefix_self journal; now = shown; known = shown;
-        heard = λ xs h. prefix_then xs before journal (fits.heard xs h) longer; apart = fits.apart
+        same = fits.same;
+        prefix = prefix_self journal;
+        now = shown;
+        known = shown;
+        heard = λ xs h. prefix_then xs before journal (fits.heard xs h) longer;
+        apart = fits.apart;
       } in
       let others : (j : ℕ) (u : View) → j ≢ id → get_elem? s.views j ≡ some u → u.spent ≡ false → Fits opening journal u = λ j u apart e live.
       let none : (a : ActorName) → StandsFor u a → entries_by a (drop (length v.seen) journal) ≡ [] = λ a stands.
@@ -154,22 +188,29 @@ module _ (opening : Start) (slots id : ℕ) (v : View) (journal : List Entry) (l
       absurd cc) in
       let old : Fits opening v.seen u = subst (λ (l : List Entry). Fits opening l u) (sym seen) (crowd.each j u e live) in
       subst (λ (l : List Entry). Fits opening l u) whole (fits_more opening v.seen (drop (length v.seen) journal) u old run none strange) in
-      by_parts (Allowed (Holds opening) id (v, put_back) (λ _. 0) (λ _. Releases mute (v, put_back) 0)) s (1 ∷ []) (none ∷ []) taken.words taken.homes
-      (w, gives, tt,
-      (journal, record {
-        turn = inl (record {
-          words = refl; homes = refl;
-          nobody = λ j u e live. elim (at_set s.views id j w u e) [
-            | inl here ↦ ap (λ (x : View). x.holds) (sym here.1)
-            | inr other ↦ elim (cases_Bool u.holds) [
-                | inl t ↦ absurd (other.0 (taken.alone j u other.1 live t ∙ sym mine))
-                | inr f ↦ f
-              ]
-          ];
-        });
-        crowd = crowd_set s.views id v w there lives alike opening before journal crowd fitted others;
-      }),
-      refl)
+      by_parts (Allowed (Holds opening) id (v, put_back) (λ _. 0) (λ _. Releases mute (v, put_back) 0)) s (1 ∷ []) (none ∷ []) taken.words taken.homes (
+        w,
+        gives,
+        tt,
+        (
+          journal,
+          record {
+            turn = inl (record {
+              words = refl;
+              homes = refl;
+              nobody = λ j u e live. elim (at_set s.views id j w u e) [
+                | inl here ↦ ap (λ (x : View). x.holds) (sym here.1)
+                | inr other ↦ elim (cases_Bool u.holds) [
+                  | inl t ↦ absurd (other.0 (taken.alone j u other.1 live t ∙ sym mine))
+                  | inr f ↦ f
+                ]
+              ];
+            });
+            crowd = crowd_set s.views id v w there lives alike opening before journal crowd fitted others;
+          },
+        ),
+        refl,
+      )
 
   releases_here : Allows (Holds opening) slots id (v, put_back) 0 (λ _. 0) (λ _. Releases mute (v, put_back) 0)
   releases_here s (before, kept) long there small = elim kept.turn [
@@ -194,14 +235,20 @@ set_first (n ∷ ns) = refl
 pub looks : (opening : Start) (slots id : ℕ) (me : Me Slot View) → me.0.spent ≡ false → Allows (Holds opening) slots id me 0 (λ n. n) (Looked mute me)
 looks opening slots id me lives s (journal, kept) long there small =
     let v : View = me.0 in
-    let fits : Fits opening journal v = kept.crowd.each id v there lives in
-    (v, keeps, tt,
-    subst (λ (p : List ℕ × List View). Holds opening (record { words = p.0; homes = s.homes; views = p.1 }))
-    (λ i. (sym (set_first s.words) i, sym (set_again s.views id v there) i)) (journal, kept),
-    (refl, record {
-      shows = subst (λ (o : Start). Tells o v.seen v.actor v.own v.listed v.kept) (sym fits.same) fits.known;
-      heard = λ xs h le. shorter_begins xs v.seen journal (fits.heard xs h) fits.prefix (leb-true (length xs) (length v.seen) le);
-    }))
+    let fits : Fits opening journal v = kept.crowd.each id v there lives in (
+      v,
+      keeps,
+      tt,
+      subst (λ (p : List ℕ × List View). Holds opening (record { words = p.0; homes = s.homes; views = p.1 }))
+          (λ i. (sym (set_first s.words) i, sym (set_again s.views id v there) i)) (journal, kept),
+      (
+        refl,
+        record {
+          shows = subst (λ (o : Start). Tells o v.seen v.actor v.own v.listed v.kept) (sym fits.same) fits.known;
+          heard = λ xs h le. shorter_begins xs v.seen journal (fits.heard xs h) fits.prefix (leb-true (length xs) (length v.seen) le);
+        },
+      ),
+    )
 
 -- the journal is opened
 
@@ -213,28 +260,43 @@ pub opens : (opening : Start) → IsRun opening.script opening.journal → Holds
 opens opening run =
     let v : View = first_view opening in
     let told : Tells opening opening.journal None [] [] [] = record {
-      begins = prefix_self opening.journal; run = run; own_is = λ a e. absurd cc; kept_is = λ p h. absurd h; kept_none = λ a e. refl;
-      strangers = λ e a h. ap (entries_by a) (drop-length opening.journal)
+      begins = prefix_self opening.journal;
+      run = run;
+      own_is = λ a e. absurd cc;
+      kept_is = λ p h. absurd h;
+      kept_none = λ a e. refl;
+      strangers = λ e a h. ap (entries_by a) (drop-length opening.journal);
     } in
     let fits : Fits opening opening.journal v = record {
-      same = refl; prefix = prefix_self opening.journal; now = told; known = told; heard = λ xs h. absurd h; apart = tt
+      same = refl;
+      prefix = prefix_self opening.journal;
+      now = told;
+      known = told;
+      heard = λ xs h. absurd h;
+      apart = tt;
     } in
     let nobody : (u : View) (a : ActorName) → v ≡ u → StandsFor u a → ⊥ = λ u a same stands.
-    elim (subst (λ (x : View). StandsFor x a) (sym same) stands) [ inl e ↦ absurd cc | inr h ↦ h.1 ] in
-    (opening.journal, record {
-      turn = inl (record {
-        words = refl; homes = refl;
-        nobody = λ i u e live. ap (λ (x : View). x.holds) (sym (only_one v u i e).1);
-      });
-      crowd = record {
-        each = λ i u e live. subst (Fits opening opening.journal) (only_one v u i e).1 fits;
-        first = v; first_there = refl; first_lives = refl; first_free = refl;
-        only = λ i u e live free. (only_one v u i e).0;
-        apart = λ i j u x a e f live liveʹ h k. (only_one v u i e).0 ∙ sym (only_one v x j f).0;
-        listed = λ i u a e live h. absurd (nobody u a (only_one v u i e).1 h);
-        covers = λ a h. absurd cc;
-      };
-    })
+    elim (subst (λ (x : View). StandsFor x a) (sym same) stands) [ inl e ↦ absurd cc | inr h ↦ h.1 ] in (
+      opening.journal,
+      record {
+        turn = inl (record {
+          words = refl;
+          homes = refl;
+          nobody = λ i u e live. ap (λ (x : View). x.holds) (sym (only_one v u i e).1);
+        });
+        crowd = record {
+          each = λ i u e live. subst (Fits opening opening.journal) (only_one v u i e).1 fits;
+          first = v;
+          first_there = refl;
+          first_lives = refl;
+          first_free = refl;
+          only = λ i u e live free. (only_one v u i e).0;
+          apart = λ i j u x a e f live liveʹ h k. (only_one v u i e).0 ∙ sym (only_one v x j f).0;
+          listed = λ i u a e live h. absurd (nobody u a (only_one v u i e).1 h);
+          covers = λ a h. absurd cc;
+        };
+      },
+    )
 
 pub acquires_as : (opening : Start) (slots id : ℕ) (me was : Me Slot View) → me ≡ was → was.0.spent ≡ false → was.0.holds ≡ false → was.1 ≡ []
     → Allows (Holds opening) slots id me 0 (λ n. either (n == 0) 1 n) (Acquires mute me)

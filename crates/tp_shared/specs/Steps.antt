@@ -7,7 +7,6 @@ use Rattle.tp_base.specs.declared.names.ActorName.TheVariants.{Session}
 use Rattle.tp_rules.specs.declared.event.Entry.{Entry}
 use Rattle.tp_script.specs.declared.script.Script.{Script}
 use Rattle.tp_shared.specs.Rule.{Made, Slot, Tells}
-use Rattle.tp_shared.specs.declared.view.Start.{Start}
 use Rattle.tp_shared.specs.declared.view.View.{View}
 
 -- the desk has the turn, and has seen the whole journal

@@ -111,7 +111,15 @@ impl Desk {
         ensures same { self.new ≡ joined self.old other }
         ensures longer { IsPrefixOf self.old.seen self.new.seen × IsPrefixOf other.seen self.new.seen }
     {
-        let Desk { seat, hand: _, count, looked: _, crash: _, actor: _, alloc: _ } = other;
+        let Desk {
+            seat,
+            hand: _,
+            count,
+            looked: _,
+            crash: _,
+            actor: _,
+            alloc: _,
+        } = other;
         steps::join(&shared.table.shared, &mut self.seat, seat);
         self.count = self.count.max(count);
     }
@@ -137,7 +145,15 @@ impl Desk {
         requires { self.holds ≡ true }
         ensures { result ≡ self.seen }
     {
-        let Desk { seat: _, hand, count: _, looked: _, crash: _, actor: _, alloc: _ } = self;
+        let Desk {
+            seat: _,
+            hand,
+            count: _,
+            looked: _,
+            crash: _,
+            actor: _,
+            alloc: _,
+        } = self;
         let Some(journal) = hand else { unreachable!() };
         journal
     }

@@ -7,8 +7,8 @@ mod entering;
 mod fetching;
 mod law;
 mod looking;
-mod steps;
 mod shared;
+mod steps;
 mod view;
 
 pub use desk::Desk;

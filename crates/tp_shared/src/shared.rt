@@ -60,7 +60,9 @@ impl Shared {
         match Table::new(alloc, &[0], slots, &terms) {
             Ok((table, seat)) => Ok((Shared { table }, Desk::first(alloc, seat, count))),
             Err(Refused { mut slots }) => {
-                let Some(Some(journal)) = slots.pop() else { unreachable!() };
+                let Some(Some(journal)) = slots.pop() else {
+                    unreachable!()
+                };
                 Err(BeginFault { journal })
             }
         }

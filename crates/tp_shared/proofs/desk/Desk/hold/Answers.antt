@@ -1,5 +1,5 @@
-use Rattle.std.proofs.Common.{Some, None, ◌∙◌, ap, sym, rules}
-use Rattle.tp_shared.proofs.Desks.{held_as, held_known_as, taken, won_slot}
+use Rattle.std.proofs.Common.{Some, ◌∙◌, ap, sym}
+use Rattle.tp_shared.proofs.Desks.{won_slot}
 use Rattle.tp_shared.proofs.desk.Desk.hold.Goals as goal
 use Rattle.tp_shared.specs.Known.{Known}
 

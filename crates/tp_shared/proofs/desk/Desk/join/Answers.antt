@@ -1,4 +1,4 @@
-use Rattle.std.proofs.Common.{◌∙◌, ap, rules}
+use Rattle.std.proofs.Common.{◌∙◌, ap}
 use Rattle.tp_shared.specs.Known.{Known}
 use Rattle.tp_shared.specs.declared.view.View.{View}
 use Rattle.atomic_table.specs.Table.{Me}

@@ -11,8 +11,7 @@ store-requires c =
     let i = c.self.invariant in
     let put = c.exchange.ensures in
     let held = ap (λ (k : Known). k.holds) c.self.view_is ∙ c.requires.held in
-    let table = ap (λ (k : Known). k.table) c.self.view_is ∙ c.requires.table in
-    (
+    let table = ap (λ (k : Known). k.table) c.self.view_is ∙ c.requires.table in (
       put.0 ∙ table ∙ sym c.shared.view_is,
       search rules,
       storing _ _ _ seat.me.0 seat.me.1 c.self.inside.hand i.hand_is held i.lives i.shows c.exchange.new.seat.me
