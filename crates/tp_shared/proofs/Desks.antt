@@ -1,13 +1,12 @@
 -- What a desk knows after each step. Used by its calls.
 use Rattle.std.proofs.Common.{◌≡◌, ℕ, ◌≤◌, true, false, List, [], ◌∷◌, ◌++◌, Option, Some, None, length, drop, refl, sym, ap, subst, ◌∙◌, append_assoc, take_all, le_refl, inl, inr, arith}
-use Rattle.std.proofs.Math.Seq.{drop-length}
-use Rattle.std.proofs.lemmas.List.{append-nil, drop-append-le}
+use Rattle.std.proofs.lemmas.List.{drop-append-le}
 use Rattle.std.proofs.lemmas.Bool.{le-leb}
 use Rattle.atomic_table.specs.Seated.{TableId}
 use Rattle.atomic_table.specs.Table.{Me, Allows, rest}
 use Rattle.atomic_table.specs.Table.{opening as table_opening}
 use Rattle.tp_base.proofs.Each.{each_push}
-use Rattle.tp_base.proofs.Prefixes.{prefix_more, prefix_self}
+use Rattle.tp_base.proofs.Prefixes.{prefix_more}
 use Rattle.tp_base.specs.Lists.{IsPrefixOf}
 use Rattle.tp_base.specs.declared.names.ActorName.{ActorName}
 use Rattle.tp_rules.specs.Runs.{IsRun}
@@ -17,9 +16,9 @@ use Rattle.tp_wire.specs.declared.message.Message.{Message}
 use Rattle.tp_rules.proofs.Journals.{run_more}
 use Rattle.tp_script.specs.declared.script.Script.{Script}
 use Rattle.tp_shared.specs.Histories.{MayFollow}
-use Rattle.tp_shared.specs.Known.{AreBy, HandIs, IsDesk, Known, crash_in, current, entered, entry_of, holding, known, name_of, own_now}
+use Rattle.tp_shared.specs.Known.{AreBy, HandIs, IsDesk, Known, crash_in, current, entry_of, known, name_of, own_now}
 use Rattle.tp_shared.specs.Rule.{Holds, Slot, Tells, first_view}
-use Rattle.tp_shared.specs.Steps.{Looks, Releases, Wins, Won, both, longer, taking}
+use Rattle.tp_shared.specs.Steps.{Looks, Releases, Won, both, longer}
 use Rattle.tp_shared.specs.declared.view.Start.{Start}
 use Rattle.tp_shared.specs.declared.view.View.{View}
 use Rattle.tp_shared.proofs.Joins.{longer_is}
@@ -38,58 +37,6 @@ pub won_slot : (v : View) (w : Me Slot View) → Won v w → w.1 ≡ (0, Some w.
 won_slot v w won =
     let slots : w.1 ≡ (0, Some w.0.seen) ∷ [] = ap (λ (m : Me Slot View). m.1) won.0 in
     slots ∙ ap (λ (l : List (ℕ × Slot)). (0, Some w.0.seen) ∷ rest l) (sym slots)
-
--- with the turn, and the journal in hand
-
-own_none : (actor : Option ActorName) → AreBy actor []
-own_none (Some a) = tt
-own_none None = refl
-
-pub held_desk : (v : View) (journal : List Entry) (count : ℕ) (crash : Option ℕ) (actor : Option ActorName) → v.spent ≡ false → actor ≡ v.actor → Wins v journal
-    → count ≡ length journal → crash ≡ crash_in actor journal
-    → IsDesk (taking v journal) ((0, None) ∷ []) (Some journal) count count crash actor
-held_desk v journal count crash actor lives is wins long found = record {
-  lives = lives;
-  actor_is = is;
-  count_is = long;
-  hand_is = (refl, refl, prefix_self journal, subst (AreBy v.actor) (sym (drop-length journal)) (own_none v.actor));
-  shows = subst (λ (l : List Entry). Tells v.opening journal v.actor l v.listed v.kept) (sym (ap (λ (l : List Entry). v.own ++ l) (drop-length journal) ∙ append-nil v.own)) wins.shows;
-  within = le_refl count;
-  all = λ _. refl;
-  crash_is = found ∙ ap (λ (o : Option ActorName). crash_in o journal) is ∙ ap (crash_in v.actor) (sym (take_all count journal (omega arith)));
-}
-
-pub held_known : (z : TableId) (v : View) (journal : List Entry) → known z (taking v journal) (Some journal) ≡ holding (known z v None) journal
-held_known z v journal =
-    ap (λ (l : List Entry). record { table = z; opening = v.opening; actor = v.actor; own = l; seen = journal; holds = true; listed = v.listed; kept = v.kept })
-    (ap (λ (l : List Entry). v.own ++ l) (drop-length journal) ∙ append-nil v.own)
-
-abbrev slot_of : List (ℕ × Slot) → Slot
-slot_of [] = None
-slot_of (x ∷ xs) = x.1
-
-same_in : (journal it : List Entry) → Some journal ≡ Some it → journal ≡ it
-same_in journal it e = cc
-
--- the turn was won, and the slot exchanged for nothing
-pub taken : (v : View) (w new : Me Slot View) (found : Slot) (journal : List Entry) → Won v w → w.1 ≡ (0, found) ∷ rest w.1 → new ≡ (w.0, (0, None) ∷ rest w.1)
-    → found ≡ Some journal → (new ≡ (taking v journal, (0, None) ∷ [])) × Wins v journal
-taken v w new found journal won slot after some =
-    let slots : w.1 ≡ (0, Some w.0.seen) ∷ [] = ap (λ (m : Me Slot View). m.1) won.0 in
-    let same : journal ≡ w.0.seen = same_in journal w.0.seen (sym some ∙ ap slot_of (sym slot ∙ slots)) in
-    let none : rest w.1 ≡ [] = ap rest slots in
-    let view : w.0 ≡ taking v journal = ap (λ (m : Me Slot View). m.0) won.0 ∙ ap (taking v) (sym same) in
-    (after ∙ (λ i. (view i, (0, None) ∷ none i)), subst (Wins v) (sym same) won.1)
-
-pub held_as : (v : View) (new : Me Slot View) (journal : List Entry) (count : ℕ) (crash : Option ℕ) (actor : Option ActorName)
-    → (new ≡ (taking v journal, (0, None) ∷ [])) × Wins v journal → v.spent ≡ false → actor ≡ v.actor → count ≡ length journal → crash ≡ crash_in actor journal
-    → IsDesk new.0 new.1 (Some journal) count count crash actor
-held_as v new journal count crash actor is lives its long found =
-    subst (λ (m : Me Slot View). IsDesk m.0 m.1 (Some journal) count count crash actor) (sym is.0) (held_desk v journal count crash actor lives its is.1 long found)
-
-pub held_known_as : (z : TableId) (v : View) (new : Me Slot View) (journal : List Entry) → (new ≡ (taking v journal, (0, None) ∷ [])) × Wins v journal
-    → known z new.0 (Some journal) ≡ holding (known z v None) journal
-held_known_as z v new journal is = ap (λ (m : Me Slot View). known z m.0 (Some journal)) is.0 ∙ held_known z v journal
 
 -- the journal in hand is put back
 pub storing : (opening : Start) (slots id : ℕ) (v : View) (out : List (ℕ × Slot)) (hand : Slot) → HandIs v out hand → v.holds ≡ true → v.spent ≡ false
@@ -172,13 +119,6 @@ entered_desk v out journal now count looked number crash found actor a e d is le
       all = λ _. refl;
       crash_is = first ∙ ap (λ (o : Option ActorName). crash_in o now) d.actor_is ∙ ap (crash_in v.actor) (sym (take_all number now (omega arith)));
     }
-
-pub entered_known : (z : TableId) (v : View) (journal now : List Entry) (e : Entry) → IsPrefixOf v.seen journal → now ≡ journal ++ e ∷ []
-    → known z v (Some now) ≡ entered (known z v (Some journal)) e
-entered_known z v journal now e grows grown =
-    ap (λ (l : List Entry). known z v (Some l)) grown
-    ∙ ap (λ (l : List Entry). record { table = z; opening = v.opening; actor = v.actor; own = l; seen = journal ++ e ∷ []; holds = v.holds; listed = v.listed; kept = v.kept })
-    (own_more v journal e grows)
 
 -- with the turn a desk knows whether the site crashed
 pub crash_known : (v : View) (out : List (ℕ × Slot)) (journal : List Entry) (count looked : ℕ) (crash : Option ℕ) (actor : Option ActorName)

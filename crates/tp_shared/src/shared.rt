@@ -13,6 +13,7 @@ use tp_journal::Journal;
 use tp_script::Script;
 
 /// A journal that desks write in turn.
+#[derive(Drop)]
 pub struct Shared {
     pub(crate) table: Board,
 }
