@@ -39,7 +39,8 @@ impl Model for Desk {
 }
 
 impl Desk {
-    /// Waits for the turn. The desk has then seen the whole journal, and has it in hand.
+    /// Waits for the turn. The desk has then seen the whole journal, and has it in hand. It costs what
+    /// was entered since the desk had the turn last.
     pub fn hold(&mut self, rt: &impl Wait, shared: &Shared)
         requires table { self.old.table ≡ shared.now }
         requires free { self.old.holds ≡ false }

@@ -19,7 +19,8 @@ pub enum EnterFault {
 }
 
 impl Desk {
-    /// Appends the actor's entry to the journal in hand, and answers its number. It costs what the entry sends.
+    /// Appends the actor's entry to the journal in hand, and answers its number. It costs what the
+    /// entry sends.
     pub fn enter(&mut self, event: Event, outputs: Outputs) -> Result<u64, EnterFault>
         requires held { (self.old.holds ≡ true) × (self.old.actor ≢ None) }
         requires legal { crash_in self.old.actor self.old.seen ≡ None → MayFollow self.old.opening.script self.old.seen (entry_of self.old event outputs) }

@@ -11,7 +11,8 @@ use tp_rules::{Outputs, Parcel, Parcels};
 use tp_wire::Message;
 
 impl Desk {
-    /// The outputs that are addressed to the desk's actor, in the entries behind a number. It costs what was entered since.
+    /// The outputs that are addressed to the desk's actor, in the entries behind a number, in order.
+    /// It costs what it gives and what was entered since.
     pub fn fetch(&self, after: u64) -> Result<Parcels, NoMemory>
         requires held { (self.now.holds ≡ true) × (self.now.actor ≢ None) }
         ensures { IfOk result (λ parcels. parcels ≡ parcels_for (name_of self.now.actor) after self.now.seen) }

@@ -1,5 +1,5 @@
 -- The first entries of the small script are legal.
-use Rattle.std.proofs.Common.{◌≡◌, ◌≤◌, ◌+◌, ℕ, inl, inr, List, [], ◌∷◌, ◌++◌, Option, Some, None, true, length, option_map, slice_get, filter_map, refl, sym, ap, subst, ◌∙◌, arith}
+use Rattle.std.proofs.Common.{◌≡◌, ◌≤◌, ◌+◌, ℕ, inl, inr, List, [], ◌∷◌, ◌++◌, Option, Some, None, true, length, option_map, slice_get, filter_map, refl, sym, ap, subst, ◌∙◌}
 use Rattle.std.specs.Prelude.{position}
 use Rattle.tp_base.proofs.Members.{has_in}
 use Rattle.tp_base.proofs.SameNames.{same_name_is}
@@ -12,7 +12,6 @@ use Rattle.tp_base.specs.declared.names.ActorName.TheVariants.{Process, Executor
 use Rattle.tp_base.specs.declared.names.Rank.{Rank}
 use Rattle.tp_rules.specs.Acts.{Did, Identity}
 use Rattle.tp_rules.specs.Addresses.{is_between, is_site_of}
-use Rattle.tp_rules.specs.Journal.{identity_in, is_known}
 use Rattle.tp_rules.specs.Plan.{asked_of, by_time, due, if_due, plan_of}
 use Rattle.tp_rules.specs.Rules.{enabled, outputs_of}
 use Rattle.tp_rules.specs.Runs.{FollowsLine, IsRun}

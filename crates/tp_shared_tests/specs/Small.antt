@@ -1,8 +1,8 @@
 -- The small script of the tests, its actors and their desks.
-use Rattle.std.specs.Prelude.{◌≡◌, ℕ, Bool, false, List, [], ◌∷◌, Option, Some, None}
+use Rattle.std.specs.Prelude.{◌≡◌, ℕ, false, List, [], ◌∷◌, Some}
 use Rattle.atomic_table.specs.Seated.{TableId}
 use Rattle.tp_base.specs.declared.names.ActorName.{ActorName}
-use Rattle.tp_base.specs.declared.names.ActorName.TheVariants.{Process, Executor, Session as OfSession}
+use Rattle.tp_base.specs.declared.names.ActorName.TheVariants.{Executor, Session as OfSession}
 use Rattle.tp_base.specs.declared.names.Site.{Site}
 use Rattle.tp_rules.specs.Journal.{identity_in}
 use Rattle.tp_script.specs.declared.script.PlanLine.TheVariants.{Crash}
@@ -12,7 +12,6 @@ use Rattle.tp_session.specs.declared.session.Session.{Session}
 use Rattle.tp_rules.specs.declared.event.Entry.{Entry}
 use Rattle.tp_shared.specs.Histories.{crash_of}
 use Rattle.tp_shared.specs.Known.{Known}
-use Rattle.tp_base.specs.declared.names.SessionId.{SessionId}
 
 abbrev pub site : Site
 site = record { partition = record { 0 = 1 }; rank = record { 0 = 1 } }

@@ -1,4 +1,4 @@
-use Rattle.std.proofs.Common.{◌≡◌, ◌∙◌, ℕ, Option, None, Some, sym, ap}
+use Rattle.std.proofs.Common.{◌≡◌, ◌∙◌, Option, None, Some, sym, ap}
 use Rattle.tp_base.specs.declared.names.ActorName.{ActorName}
 use Rattle.tp_shared.specs.Known.{Known, crash_in}
 use Rattle.tp_shared_tests.proofs.Legal.{still_crashed}
