@@ -7,3 +7,4 @@ pub mod Crashes
 pub mod Desks
 pub mod Addressed
 pub mod Legality
+pub mod Settled

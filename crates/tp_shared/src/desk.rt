@@ -2,7 +2,7 @@ ghost use Rattle.std.specs.Prelude.{◌≡◌, ◌≢◌, true, false, [], ◌�
 ghost use Rattle.tp_base.specs.Lists.{IsPrefixOf, has};
 ghost use Rattle.tp_base.specs.Names.{same_name};
 ghost use Rattle.tp_rules.specs.Runs.{IsRun};
-ghost use Rattle.tp_shared.specs.Known.{IsDesk, Told, holding, joined, known, listed_too, new_desk, released};
+ghost use Rattle.tp_shared.specs.Known.{AllJoined, IsDesk, Told, holding, joined, known, listed_too, new_desk, released};
 
 use crate::law::{Place, Release};
 use crate::looking::crash_after;
@@ -47,6 +47,7 @@ impl Desk {
         ensures held { self.new ≡ holding self.old self.new.seen }
         ensures grows { IsPrefixOf self.old.seen self.new.seen }
         ensures run { IsRun self.old.opening.script self.new.seen }
+        ensures settled { self.old.actor ≡ None → AllJoined self.old → self.new.seen ≡ self.old.seen }
     {
         steps::win(rt, &shared.table.shared, &mut self.seat);
         let Some(journal) = shared.table.shared.exchange(&mut self.seat, 0, None) else {
