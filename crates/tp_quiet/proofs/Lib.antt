@@ -1,0 +1,10 @@
+pub mod AllExecuted
+pub mod AllServed
+pub mod AllStable
+pub mod AtRest
+pub mod Gains
+pub mod LowStamps
+pub mod NotStuck
+pub mod Onward
+pub mod Served
+pub mod Serving
