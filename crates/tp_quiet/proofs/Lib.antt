@@ -8,3 +8,6 @@ pub mod NotStuck
 pub mod Onward
 pub mod Served
 pub mod Serving
+pub mod Standing
+pub mod Counts
+pub mod EachSheet

@@ -2,15 +2,12 @@
 -- Used for what the messages that it took leave behind (AllServed).
 use Rattle.std.proofs.Common.{◌≡◌, ◌⊎◌, ℕ, ◌<◌, ◌≤◌, inl, inr, true, false, List, Option, Some, None, is_some, max, cond, refl, sym, ap, ◌∙◌, subst, arith}
 use Rattle.std.specs.Prelude.{is_none}
-use Rattle.std.proofs.lemmas.Bool.{cond_both}
-use Rattle.tp_base.proofs.SameNames.{same_id_is}
-use Rattle.tp_base.specs.Names.{same_id}
 use Rattle.tp_base.specs.declared.names.CommandId.{CommandId}
 use Rattle.tp_base.specs.declared.names.Site.{Site}
 use Rattle.tp_facts.proofs.Facts.{IsGenuine, IsHere, SheetFacts}
 use Rattle.tp_facts.proofs.Later.{Later, later}
 use Rattle.tp_facts.proofs.RuleTests.{ballot_put}
-use Rattle.tp_facts.proofs.StepCases.{SheetStep, submits_and_acknowledges, counts_acknowledgement, decides_fast, puts_slow, counts_vote, decides_by_votes, counts_answer, puts_recovered, starts_recovery, ProcessStep, does_nothing, bumps_clock, announces, passes_commit_on, changes_sheet, attaches_proposal}
+use Rattle.tp_facts.proofs.StepCases.{SheetStep, submits_and_acknowledges, counts_acknowledgement, decides_fast, puts_slow, counts_vote, decides_by_votes, counts_answer, puts_recovered, starts_recovery, ProcessStep}
 use Rattle.tp_ops.specs.declared.command.Command.{Command}
 use Rattle.tp_rules.specs.Acts.{Act}
 use Rattle.tp_rules.specs.Addresses.{rank_of}
@@ -19,6 +16,7 @@ use Rattle.tp_rules.specs.Sheet.{Proposed, QuorumRule, Sheet, stamp_of}
 use Rattle.tp_rules.specs.Tables.{kept_at, nth}
 use Rattle.tp_topology.specs.Ballots.{next_ballot}
 use Rattle.tp_wire.specs.declared.message.Message.{Message}
+use Rattle.tp_quiet.proofs.EachSheet.{each_sheet}
 use Rattle.tp_quiet.proofs.Gains.{kept_more, vote_stays, votes_put}
 use Rattle.tp_quiet.proofs.Served.{Knows, Onward}
 
@@ -95,25 +93,11 @@ module _ (s : QuorumRule) (me : Site) where
 
   -- each sheet of a process goes on, by each of its acts
   module _ (of : CommandId → Command) (here : IsHere s me) (acts : List Act) (sent : List Message) where
-    changed_onward : {act : Act} (sheets : CommandId → Sheet) (id : CommandId) (new : Sheet) (out : List Message)
-        → SheetStep s me act id (sheets id) new out → IsGenuine of act
-        → ((i : CommandId) → SheetFacts s me of acts sent i (sheets i)) → (other : CommandId)
-        → Onward (sheets other) (cond (same_id id other) new (sheets other))
-    changed_onward sheets id new out step genuine facts other =
-        cond_both (same_id id other) new (sheets other) (Onward (sheets other))
-        (λ y. subst (λ (i : CommandId). Onward (sheets i) new) (same_id_is id other y)
-        (sheet_onward step
-        (later s me of acts step genuine here (facts id).acceptor.below (facts id).proposer) here.rank.0))
-        (λ n. onward_itself (sheets other))
-
     pub act_onward : {act : Act} {state : ProcessState} {moved : Step} → ProcessStep s me act state moved
         → IsGenuine of act → ((i : CommandId) → SheetFacts s me of acts sent i (state.sheets i)) → (id : CommandId)
         → Onward (state.sheets id) (moved.0.sheets id)
-    act_onward {state = state} (changes_sheet {id = i} {new = new} {out = out} clock le step same) genuine facts id =
-        changed_onward state.sheets i new out step genuine facts id
-    act_onward {state = state} (attaches_proposal {id = i} {new = new} {out = out} t made lt step none some) genuine facts id =
-        changed_onward state.sheets i new out step genuine facts id
-    act_onward {state = state} does_nothing genuine facts id = onward_itself (state.sheets id)
-    act_onward {state = state} (bumps_clock clock le) genuine facts id = onward_itself (state.sheets id)
-    act_onward {state = state} announces genuine facts id = onward_itself (state.sheets id)
-    act_onward {state = state} (passes_commit_on c b t by e known) genuine facts id = onward_itself (state.sheets id)
+    act_onward {act} {state} {moved} step genuine facts id =
+        each_sheet (λ out i sheet. Onward (state.sheets i) sheet) s me act state moved step
+        (λ i new out change. sheet_onward change
+        (later s me of acts change genuine here (facts i).acceptor.below (facts i).proposer) here.rank.0)
+        (λ out i. onward_itself (state.sheets i)) id

@@ -27,13 +27,14 @@ use Rattle.tp_quorum.specs.declared.choice.FastChoice.TheVariants.{Fast, Slow}
 use Rattle.tp_rules.specs.Addresses.{is_between, is_body_at, is_command_at, is_name_of, message, rank_of}
 use Rattle.tp_rules.proofs.Fit.{between_is}
 use Rattle.tp_rules.specs.Acts.{Took}
-use Rattle.tp_rules.specs.Process.{Step, ProcessState, accept_and_vote, answer_recovery, answer_with_old_proposal, conclude_fast_path, decided, finished, follow_choice, learned, next_stamp, on_body, on_commit, on_consensus, on_consensus_ack, on_propose, on_propose_ack, on_rec, on_rec_ack, on_rec_by_stamp, on_submit, propose_and_acknowledge, propose_and_answer, put_recovered, react, recovered, submitted, voted, with_room, with_sheet}
+use Rattle.tp_rules.specs.Process.{Step, ProcessState, accept_and_vote, answer_recovery, answer_with_old_proposal, conclude_fast_path, decided, follow_choice, learned, next_stamp, on_body, on_commit, on_consensus, on_consensus_ack, on_propose, on_propose_ack, on_rec, on_rec_ack, on_rec_by_stamp, on_submit, propose_and_acknowledge, propose_and_answer, put_recovered, react, recovered, submitted, voted, with_room, with_sheet}
 use Rattle.tp_rules.specs.Sheet.{Proposed, QuorumRule, Sheet, acknowledged, acknowledged_own, can_accept, can_acknowledge, can_answer, can_vote, final_stamp, is_fresh, is_full, is_made_by_proposal, is_member, is_recovered, is_untouched, putting, stamp_decided, stamp_of, with_answer, with_command, with_proposal, with_stamp, with_vote}
 use Rattle.tp_rules.specs.Tables.{kept_at, nth}
 use Rattle.tp_topology.specs.Shape.{fast_size}
 use Rattle.tp_wire.specs.declared.message.Body.{Body}
 use Rattle.tp_wire.specs.declared.message.Body.TheVariants.{MSubmit, MPropose, MProposeAck, MConsensus, MConsensusAck, MCommit, MRec, MRecAck}
 use Rattle.tp_wire.specs.declared.message.Message.{Message}
+use Rattle.tp_quiet.proofs.EachSheet.{itself, learned_leads, sheet_leads}
 use Rattle.tp_quiet.proofs.Gains.{vote_here, votes_put}
 use Rattle.tp_quiet.proofs.Served.{IsServed, IsTouched, IsAcknowledged, IsVoted, IsVoteCounted, IsJoined, IsAnswerCounted, Knows}
 
@@ -69,30 +70,17 @@ pub record HasPlaces (p rank : ℕ) (sheets : CommandId → Sheet) : Type 0 wher
   pub voters : (id : CommandId) (put : PutStamp) → (sheets id).put ≡ Some put → rank ≤ length put.votes
   pub ballots : (id : CommandId) (put : PutStamp) → (sheets id).put ≡ Some put → 0 < put.ballot
 
--- where a change leads to
+-- what a rule makes of a command's own sheet
 
 with_sheet_is : (P : Sheet → Type 0) (id : CommandId) (sheet : Sheet) (state : ProcessState) → P sheet
     → P (cond (same_id id id) sheet (state.sheets id))
-with_sheet_is P id sheet state h =
-    subst P (sym (cond-true (same_id id id) sheet (state.sheets id) (same_id_refl id))) h
-
-finished_is : (P : Sheet → Type 0) (me : Site) (id : CommandId) (sheet : Sheet) (o : Option Command) (last : Option ℕ)
-    (state : ProcessState) → P sheet → P ((finished me id sheet o last state).0.sheets id)
-finished_is P me id sheet None last state h = with_sheet_is P id sheet state h
-finished_is P me id sheet (Some c) None state h = with_sheet_is P id sheet state h
-finished_is P me id sheet (Some c) (Some t) state h = with_sheet_is P id sheet state h
+with_sheet_is P id sheet state h = sheet_leads P id id state (itself P id state) sheet h
 
 module _ (s : QuorumRule) (me : Site) where
   learned_is : (P : Sheet → Type 0) (id : CommandId) (q t : ℕ) (sheet : Sheet) (state : ProcessState)
       → (is_some (stamp_of sheet q) ≡ true → P sheet) → P (with_stamp q t sheet)
       → P ((learned s.shape me id q t sheet state).0.sheets id)
-  learned_is P id q t sheet state known new =
-      let next : Sheet = with_stamp q t sheet in
-      cond_both (is_some (stamp_of sheet q)) (with_sheet id sheet state, [])
-      (finished me id next next.command (final_stamp s.shape next next.command) state)
-      (λ (moved : Step). P (moved.0.sheets id))
-      (λ y. with_sheet_is P id sheet state (known y))
-      (λ n. finished_is P me id next next.command (final_stamp s.shape next next.command) state new)
+  learned_is P id q t sheet state known new = learned_leads P id id state (itself P id state) s me q t sheet known new
 
   module _ (of : CommandId → Command) (from : ActorName) (state : ProcessState) where
     -- no stamp, no ballot or no proposal is missing
