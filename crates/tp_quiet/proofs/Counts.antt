@@ -19,7 +19,7 @@ use Rattle.tp_facts.proofs.RuleTests.{ballot_put}
 use Rattle.tp_facts.proofs.StepCases.{SheetStep, puts_slow, counts_vote, decides_by_votes, counts_answer, puts_recovered, starts_recovery, ProcessStep, does_nothing, bumps_clock, announces, passes_commit_on, changes_sheet, attaches_proposal}
 use Rattle.tp_facts.proofs.Tables.{kept_here, present_none, present_with}
 use Rattle.tp_ops.specs.declared.command.Command.{Command}
-use Rattle.tp_paxos.specs.Votes.{PutStamp, count_votes, decision}
+use Rattle.tp_paxos.specs.Votes.{PutStamp, count_votes, decision, is_put_at}
 use Rattle.tp_quorum.specs.Choice.{present}
 use Rattle.tp_rules.specs.Acts.{Act, Took, Did}
 use Rattle.tp_rules.specs.Addresses.{is_body_at, is_name_of, rank_of}
@@ -133,3 +133,54 @@ module _ (s : QuorumRule) (me : Site) where
   unanswered_kept (puts_recovered {m} id t made a b c e can is enough) other shape goes h =
       absurd (subst IsNoAnswer e other)
   unanswered_kept {old = old} {new = new} _ other shape goes h = unanswered_onward old new goes refl refl h
+
+  -- a command that is recovered here is kept here
+  answer_unanswered : (from : ActorName) (id : CommandId) (t : ℕ) (made : Made) (a b : ℕ) (state : ProcessState) → 0 < b
+      → ((i : CommandId) → 0 < (state.sheets i).tried → is_some (state.sheets i).command ≡ true)
+      → ((i : CommandId) → IsUnanswered s me.partition.0 (state.sheets i)) → (other : CommandId)
+      → IsUnanswered s me.partition.0 ((on_rec_ack s me from id t made a b state).0.sheets other)
+  answer_unanswered from id t made a b state some kept h other =
+      let old : Sheet = state.sheets id in
+      let answer : RecoveryAnswer = record {
+        rank = record { 0 = rank_of from };
+        stamp = record { 0 = t };
+        made = made;
+        accepted = a;
+      } in
+      let new : Sheet = with_answer answer old in
+      let unanswered : Sheet → Type 0 = IsUnanswered s me.partition.0 in
+      cond_both (can_answer me.partition.0 b (rank_of from) old) (recovered s me id b new state) (state, [])
+      (λ (moved : Step). unanswered (moved.0.sheets other))
+      (λ y.
+      let tests = and_parts _ (is_none (kept_at old.answers (rank_of from))) y in
+      let earlier = and_parts _ (not (is_put_at b old.put)) tests.0 in
+      let tried : old.tried ≡ b = eqb-true old.tried b (and_parts _ (old.tried == b) earlier.0).1 in
+      cond_both (is_recovered s.shape new) (put_recovered s me id b new.command new state) (with_sheet id new state, [])
+      (λ (moved : Step). unanswered (moved.0.sheets other))
+      (λ enough. by_command old.command refl tried)
+      (λ few. sheet_leads unanswered id other state (λ apart. h other) new
+      (fewer (eqb-false (length (present new.answers)) (recovery_size s.shape) few) tried (h id))))
+      (λ n. h other)
+    where
+      answer_here : RecoveryAnswer
+      answer_here = record { rank = record { 0 = rank_of from }; stamp = record { 0 = t }; made = made; accepted = a }
+
+      by_command : (o : Option Command) → (state.sheets id).command ≡ o → (state.sheets id).tried ≡ b
+          → IsUnanswered s me.partition.0
+          ((put_recovered s me id b o (with_answer answer_here (state.sheets id)) state).0.sheets other)
+      by_command None none tried =
+          absurd (let wrong : is_some (state.sheets id).command ≡ false = ap (λ (o : Option Command). is_some o) none in
+          let right = kept id (omega (arith, tried, some)) in cc)
+      by_command (Some c) is tried =
+          let new : Sheet = with_answer answer_here (state.sheets id) in
+          let x : ℕ = recovery_choice (s.in_quorum c) c.home.0 (present new.answers) in
+          sheet_leads (IsUnanswered s me.partition.0) id other state (λ apart. h other) (putting s.shape b x new)
+          (inr (inl (omega (arith, tried))))
+
+      fewer : (length (present (with_answer answer_here (state.sheets id)).answers) ≡ recovery_size s.shape → ⊥)
+          → (state.sheets id).tried ≡ b → IsUnanswered s me.partition.0 (state.sheets id)
+          → IsUnanswered s me.partition.0 (with_answer answer_here (state.sheets id))
+      fewer apart tried (inl known) = inl known
+      fewer apart tried (inr (inl put)) = inr (inl put)
+      fewer apart tried (inr (inr few)) =
+          inr (inr (omega (arith, apart, few, present_with (state.sheets id).answers (rank_of from) answer_here)))
