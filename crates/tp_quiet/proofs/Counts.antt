@@ -14,7 +14,9 @@ use Rattle.tp_base.specs.declared.names.Made.{Made}
 use Rattle.tp_base.specs.declared.names.Site.{Site}
 use Rattle.tp_choice.specs.Choosing.{recovery_choice}
 use Rattle.tp_choice.specs.declared.answer.RecoveryAnswer.{RecoveryAnswer}
+use Rattle.tp_facts.proofs.AcceptorKept.{carried}
 use Rattle.tp_facts.proofs.ActSteps.{step_of_act}
+use Rattle.tp_facts.proofs.Facts.{IsGenuine, IsHere, SheetFacts}
 use Rattle.tp_facts.proofs.RuleTests.{ballot_put}
 use Rattle.tp_facts.proofs.StepCases.{SheetStep, puts_slow, counts_vote, decides_by_votes, counts_answer, puts_recovered, starts_recovery, ProcessStep, does_nothing, bumps_clock, announces, passes_commit_on, changes_sheet, attaches_proposal}
 use Rattle.tp_facts.proofs.Tables.{kept_here, present_none, present_with}
@@ -32,6 +34,7 @@ use Rattle.tp_wire.specs.declared.message.Body.TheVariants.{MConsensusAck, MRecA
 use Rattle.tp_wire.specs.declared.message.Message.{Message}
 use Rattle.tp_quiet.proofs.EachSheet.{each_sheet, learned_leads, sheet_leads}
 use Rattle.tp_quiet.proofs.Gains.{no_votes, votes_put}
+use Rattle.tp_quiet.proofs.Onward.{step_onward}
 use Rattle.tp_quiet.proofs.Served.{Knows, Onward}
 
 -- too few votes for a decision
@@ -184,3 +187,73 @@ module _ (s : QuorumRule) (me : Site) where
       fewer apart tried (inr (inl put)) = inr (inl put)
       fewer apart tried (inr (inr few)) =
           inr (inr (omega (arith, apart, few, present_with (state.sheets id).answers (rank_of from) answer_here)))
+
+  -- each act leaves too few votes and answers
+  module _ (of : CommandId → Command) (here : IsHere s me) (acts : List Act) (sent : List Message) where
+    admitted : (P : ProcessState → Type 0) (m : Message) (state : ProcessState) → P state
+        → P (on_body s me m.from m.body state).0 → P (react s me (Took m) state).0
+    admitted P m state stays goes =
+        let names : Bool =
+        same_name m.to (Process me) && is_name_of s.shape m.from && is_body_at s.shape me.partition.0 m.body in
+        let moved : Step = on_body s me m.from m.body state in
+        cond_both names (with_room state moved) (state, []) (λ (x : Step). P x.0)
+        (λ y. cond_both (nat_lt moved.0.clock STAMP_LIMIT) moved (state, []) (λ (x : Step). P x.0)
+        (λ room. goes) (λ none. stays))
+        (λ n. stays)
+
+    by_step : (act : Act) (state : ProcessState) → IsActWith IsNoVote act → IsGenuine of act
+        → ((i : CommandId) → SheetFacts s me of acts sent i (state.sheets i))
+        → ((i : CommandId) → IsUndecided s me.partition.0 (state.sheets i)) → (id : CommandId)
+        → IsUndecided s me.partition.0 ((react s me act state).0.sheets id)
+    by_step act state other genuine facts h id =
+        each_sheet (λ out i sheet. IsUndecided s me.partition.0 sheet) s me act state (react s me act state)
+        (step_of_act s me act state)
+        (λ i new out change. undecided_kept change other (step_onward s me of here acts sent change genuine (facts i)) (h i))
+        (λ out i. h i) id
+
+    pub act_undecided : (act : Act) (state : ProcessState) → IsGenuine of act
+        → ((i : CommandId) → SheetFacts s me of acts sent i (state.sheets i))
+        → ((i : CommandId) → IsUndecided s me.partition.0 (state.sheets i)) → (id : CommandId)
+        → IsUndecided s me.partition.0 ((react s me act state).0.sheets id)
+    act_undecided (Did inner) state genuine facts h id = by_step (Did inner) state tt genuine facts h id
+    act_undecided (Took m) state genuine facts h id = by_body m.body refl
+      where
+        size : (i : CommandId) → me.partition.0 ≤ length (state.sheets i).known
+        size i = omega (arith, here.partition.1, (facts i).places.stamps)
+
+        by_body : (body : Body) → m.body ≡ body → IsUndecided s me.partition.0 ((react s me (Took m) state).0.sheets id)
+        by_body (MConsensusAck i b) e =
+            admitted (λ (x : ProcessState). IsUndecided s me.partition.0 (x.sheets id)) m state (h id)
+            (subst
+            (λ (body : Body). IsUndecided s me.partition.0 ((on_body s me m.from body state).0.sheets id)) (sym e)
+            (vote_undecided m.from i b state here.partition.0 size h id))
+        by_body body e = by_step (Took m) state (subst IsNoVote (sym e) tt) genuine facts h id
+
+    answer_by_step : (act : Act) (state : ProcessState) → IsShape s.shape → IsActWith IsNoAnswer act → IsGenuine of act
+        → ((i : CommandId) → SheetFacts s me of acts sent i (state.sheets i))
+        → ((i : CommandId) → IsUnanswered s me.partition.0 (state.sheets i)) → (id : CommandId)
+        → IsUnanswered s me.partition.0 ((react s me act state).0.sheets id)
+    answer_by_step act state shape other genuine facts h id =
+        each_sheet (λ out i sheet. IsUnanswered s me.partition.0 sheet) s me act state (react s me act state)
+        (step_of_act s me act state)
+        (λ i new out change. unanswered_kept change other shape
+        (step_onward s me of here acts sent change genuine (facts i)) (h i))
+        (λ out i. h i) id
+
+    pub act_unanswered : (shape : IsShape s.shape) (act : Act) (state : ProcessState) → IsGenuine of act
+        → ((i : CommandId) → SheetFacts s me of acts sent i (state.sheets i))
+        → ((i : CommandId) → 0 < (state.sheets i).tried → is_some (state.sheets i).command ≡ true)
+        → ((i : CommandId) → IsUnanswered s me.partition.0 (state.sheets i)) → (id : CommandId)
+        → IsUnanswered s me.partition.0 ((react s me act state).0.sheets id)
+    act_unanswered shape (Did inner) state genuine facts kept h id =
+        answer_by_step (Did inner) state shape tt genuine facts h id
+    act_unanswered shape (Took m) state genuine facts kept h id = by_body m.body refl
+      where
+        by_body : (body : Body) → m.body ≡ body
+            → IsUnanswered s me.partition.0 ((react s me (Took m) state).0.sheets id)
+        by_body (MRecAck i t made a b) e =
+            admitted (λ (x : ProcessState). IsUnanswered s me.partition.0 (x.sheets id)) m state (h id)
+            (subst
+            (λ (body : Body). IsUnanswered s me.partition.0 ((on_body s me m.from body state).0.sheets id)) (sym e)
+            (answer_unanswered m.from i t.0 made a b state (carried of m _ e genuine).1 kept h id))
+        by_body body e = answer_by_step (Took m) state shape (subst IsNoAnswer (sym e) tt) genuine facts h id

@@ -11,3 +11,6 @@ pub mod Serving
 pub mod Standing
 pub mod Counts
 pub mod EachSheet
+pub mod Proposals
+pub mod Replies
+pub mod AllStanding

@@ -93,11 +93,14 @@ module _ (s : QuorumRule) (me : Site) where
 
   -- each sheet of a process goes on, by each of its acts
   module _ (of : CommandId → Command) (here : IsHere s me) (acts : List Act) (sent : List Message) where
+    pub step_onward : {act : Act} {id : CommandId} {old new : Sheet} {out : List Message}
+        → SheetStep s me act id old new out → IsGenuine of act → SheetFacts s me of acts sent id old → Onward old new
+    step_onward step genuine facts =
+        sheet_onward step (later s me of acts step genuine here facts.acceptor.below facts.proposer) here.rank.0
+
     pub act_onward : {act : Act} {state : ProcessState} {moved : Step} → ProcessStep s me act state moved
         → IsGenuine of act → ((i : CommandId) → SheetFacts s me of acts sent i (state.sheets i)) → (id : CommandId)
         → Onward (state.sheets id) (moved.0.sheets id)
     act_onward {act} {state} {moved} step genuine facts id =
         each_sheet (λ out i sheet. Onward (state.sheets i) sheet) s me act state moved step
-        (λ i new out change. sheet_onward change
-        (later s me of acts change genuine here (facts i).acceptor.below (facts i).proposer) here.rank.0)
-        (λ out i. onward_itself (state.sheets i)) id
+        (λ i new out change. step_onward change genuine (facts i)) (λ out i. onward_itself (state.sheets i)) id

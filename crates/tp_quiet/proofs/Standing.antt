@@ -78,7 +78,7 @@ module _ (s : QuorumRule) (me : Site) (of : CommandId → Command) where
   abbrev pub IsSpread : List Message → CommandId → PutStamp → Type 0
   IsSpread sent id put = ToRanks sent (MConsensus (of id) (stamp put.stamp) put.ballot)
 
-  spread_more : (sent out : List Message) (id : CommandId) (o : Option PutStamp) → IfAny (IsSpread sent id) o
+  pub spread_more : (sent out : List Message) (id : CommandId) (o : Option PutStamp) → IfAny (IsSpread sent id) o
       → IfAny (IsSpread (out ++ sent) id) o
   spread_more sent out id None h = tt
   spread_more sent out id (Some put) h = ranks_more sent out _ h
@@ -117,7 +117,7 @@ module _ (s : QuorumRule) (me : Site) (of : CommandId → Command) where
       subst (λ (d : Command). ToRanks (asked s.shape me b (Some c) ++ sent) (MRec d b)) h.0
       (ranks_here sent (MRec c b))
 
-  asked_more : (sent out : List Message) (id : CommandId) (tried : ℕ) (o p : Option Command)
+  pub asked_more : (sent out : List Message) (id : CommandId) (tried : ℕ) (o p : Option Command)
       → (is_some o ≡ true → is_some p ≡ true) → IsTryAsked sent id tried o → IsTryAsked (out ++ sent) id tried p
   asked_more sent out id tried o p keeps h = λ some.
       let x = h some in record { command = keeps x.command; question = ranks_more sent out _ x.question }
@@ -188,7 +188,7 @@ module _ (s : QuorumRule) (me : Site) (of : CommandId → Command) where
   IsJoinedFor acts sent id b = ((t : ℕ) × WasTaken acts (MConsensus (of id) (stamp t) b))
       ⊎ HasAnswered me acts sent (of id) b
 
-  joined_more : (act : Act) (acts : List Act) (sent out : List Message) (id : CommandId) (b : ℕ)
+  pub joined_more : (act : Act) (acts : List Act) (sent out : List Message) (id : CommandId) (b : ℕ)
       → IsJoinedFor acts sent id b → IsJoinedFor (act ∷ acts) (out ++ sent) id b
   joined_more act acts sent out id b (inl put) = inl (put.0, taken_more act put.1)
   joined_more act acts sent out id b (inr by) = inr (record {
