@@ -14,3 +14,4 @@ pub mod EachSheet
 pub mod Proposals
 pub mod Replies
 pub mod AllStanding
+pub mod Stuck

@@ -1,0 +1,259 @@
+-- Where each message was taken, admitted and in time, and a full fast quorum acknowledged, some process of a partition knows
+-- the stamp of a command.
+-- Used for each command and each of its partitions in a run in which nothing is pending.
+use Rattle.std.proofs.Common.{◌≡◌, ◌⊎◌, ℕ, ◌<◌, ◌≤◌, Bool, inl, inr, true, false, List, [], ◌∷◌, ◌++◌, length, max, Option, Some, None, is_some, refl, sym, ap, subst, ◌∙◌, arith}
+use Rattle.std.specs.Prelude.{is_none}
+use Rattle.std.proofs.lemmas.Bool.{and_from}
+use Rattle.tp_base.proofs.Members.{in_either}
+use Rattle.tp_base.specs.Limits.{IsFrom}
+use Rattle.tp_base.specs.Lists.{Each, IsIn}
+use Rattle.tp_base.specs.declared.names.ActorName.{ActorName}
+use Rattle.tp_base.specs.declared.names.ActorName.TheVariants.{Process}
+use Rattle.tp_base.specs.declared.names.CommandId.{CommandId}
+use Rattle.tp_base.specs.declared.names.Site.{Site}
+use Rattle.tp_facts.proofs.Commands.{command_in, command_in_names}
+use Rattle.tp_facts.proofs.Consequences.{put_of}
+use Rattle.tp_facts.proofs.Deliveries.{took_sent}
+use Rattle.tp_facts.proofs.Facts.{IsGenuine, IsHere, IsPutter, WasTaken, sent_by}
+use Rattle.tp_facts.proofs.RuleTests.{ballot_put}
+use Rattle.tp_facts.proofs.RunFacts.{FactsAt, run_holds}
+use Rattle.tp_facts.proofs.SamePartition.{IsPeer, from_own_partition}
+use Rattle.tp_facts.proofs.Senders.{sent_by_process}
+use Rattle.tp_facts.specs.Settled.{sheet_at}
+use Rattle.tp_ops.specs.declared.command.Command.{Command}
+use Rattle.tp_paxos.specs.Votes.{PutStamp}
+use Rattle.tp_rules.proofs.ActsMore.{acts_step}
+use Rattle.tp_rules.proofs.Fit.{is_between-from, site_is}
+use Rattle.tp_rules.proofs.FitChoices.{ring_has_fast_size}
+use Rattle.tp_rules.proofs.Selections.{IfAny}
+use Rattle.tp_rules.proofs.SendsOfProcess.{stamp}
+use Rattle.tp_rules.specs.Acts.{Act, Took, Did}
+use Rattle.tp_rules.specs.Addresses.{is_between, is_site_of, message, rank_of, site}
+use Rattle.tp_rules.specs.Journal.{IsSent, act_of, acts}
+use Rattle.tp_rules.specs.Process.{state_after}
+use Rattle.tp_rules.specs.Runs.{IsFreeHistory, outputs_by, outputs_in}
+use Rattle.tp_rules.specs.Sheet.{QuorumRule, Sheet, ring_rule}
+use Rattle.tp_rules.specs.Tables.{kept_at, nth}
+use Rattle.tp_rules.specs.declared.event.Entry.{Entry}
+use Rattle.tp_script.specs.Accepted.{IsAccepted}
+use Rattle.tp_script.specs.declared.script.Script.{Script}
+use Rattle.tp_topology.specs.Ballots.{owner}
+use Rattle.tp_wire.specs.declared.message.Body.{Body}
+use Rattle.tp_wire.specs.declared.message.Body.TheVariants.{MConsensus, MConsensusAck, MRec, MRecAck}
+use Rattle.tp_wire.specs.declared.message.Message.{Message}
+use Rattle.tp_quiet.proofs.AllServed.{AreTakenWell, all_served}
+use Rattle.tp_quiet.proofs.AllStanding.{IsStanding, all_standing}
+use Rattle.tp_quiet.proofs.Gains.{votes_put}
+use Rattle.tp_quiet.proofs.NotStuck.{AskedBy, Found, IsStuck, PutBy, find_rank, not_stuck}
+use Rattle.tp_quiet.proofs.Served.{IsAnswerCounted, IsJoined, IsServed, IsVoteCounted, IsVoted, Knows}
+use Rattle.tp_quiet.proofs.Standing.{HasAnswered, IsSpread}
+
+-- what a process sent by its acts was sent
+are_sent : (script : Script) (older : List Entry) → IsFreeHistory script older → (k : Site) (n : Message)
+    → IsIn n (sent_by (ring_rule script.topology) k (acts older (Process k))) → IsSent older n
+are_sent script [] history k n there = absurd there
+are_sent script (e ∷ older) history k n there =
+    let earlier : List Message = sent_by (ring_rule script.topology) k (acts older (Process k)) in
+    let rest : IsIn n earlier → IsSent older n = are_sent script older history.0 k n in
+    acts_step (λ (list : List Act). IsIn n (sent_by (ring_rule script.topology) k list) → IsSent (e ∷ older) n)
+    older e (Process k) (λ h. inr (rest h))
+    (λ act same is h. elim (in_either (outputs_by script older (Process k) (Some act)) earlier n h) [
+      | inl new ↦
+          let outputs : e.outputs ≡ outputs_by script older (Process k) (Some act) =
+          history.1.outputs
+          ∙ ap (λ (a : ActorName). outputs_by script older a (act_of older e.event)) same
+          ∙ ap (λ (o : Option Act). outputs_by script older (Process k) o) is in
+          inl (subst (IsIn n) (sym outputs) new)
+      | inr old ↦ inr (rest old)
+    ]) there
+
+-- a journal in which each process took well all that was sent to it
+pub record IsTakenIn (script : Script) (older : List Entry) : Type 0 where
+  pub accepted : IsAccepted script
+  pub history : IsFreeHistory script older
+  pub took : (m : Message) → IsSent older m → IsIn (Took m) (acts older m.to)
+  pub here : (k : Site) → is_site_of script.topology k ≡ true → IsHere (ring_rule script.topology) k
+  pub genuine : (k : Site) → is_site_of script.topology k ≡ true
+      → Each (IsGenuine (command_in script.commands)) (acts older (Process k))
+  pub well : (k : Site) (is : is_site_of script.topology k ≡ true)
+      → AreTakenWell (ring_rule script.topology) k (command_in script.commands) (here k is) (acts older (Process k))
+
+module _ (script : Script) (older : List Entry) (run : IsTakenIn script older) (p : ℕ)
+    (part : IsFrom 1 script.topology.partitions p) (c : Command) (ours : c ≡ command_in script.commands c.id) where
+  abbrev of : CommandId → Command
+  of = command_in script.commands
+
+  abbrev rule : QuorumRule
+  rule = ring_rule script.topology
+
+  abbrev IsRank : ℕ → Type 0
+  IsRank k = IsFrom 1 script.topology.replicas k
+
+  abbrev acts_of : ℕ → List Act
+  acts_of k = acts older (Process (site p k))
+
+  abbrev sent_of : ℕ → List Message
+  sent_of k = sent_by rule (site p k) (acts_of k)
+
+  abbrev sheet : ℕ → Sheet
+  sheet k = sheet_at script older p k c.id
+
+  is_here : (k : ℕ) → IsRank k → is_site_of script.topology (site p k) ≡ true
+  is_here k range = and_from (is_between p script.topology.partitions) (is_between k script.topology.replicas)
+      (is_between-from p script.topology.partitions part) (is_between-from k script.topology.replicas range)
+
+  facts : (k : ℕ) → IsRank k → FactsAt script of older (site p k)
+  facts k range = run_holds script of run.accepted (command_in_names script run.accepted) older run.history (site p k)
+      (is_here k range)
+
+  standing : (k : ℕ) → IsRank k → IsStanding rule (site p k) of (acts_of k) (sent_of k) c.id (sheet k)
+  standing k range = all_standing rule (site p k) of (run.here (site p k) (is_here k range)) run.accepted.shape
+      (acts_of k) (run.genuine (site p k) (is_here k range)) c.id
+
+  -- what a process of the partition sent to another was taken, and is served
+  served : (j k : ℕ) → IsRank k → (body : Body)
+      → IsIn (message (Process (site p j)) (Process (site p k)) body) (sent_of j)
+      → IsServed rule (site p k) of (sent_of k) (Process (site p j))
+      (state_after rule (site p k) (acts_of k)).sheets body
+  served j k range body there =
+      let m : Message = message (Process (site p j)) (Process (site p k)) body in
+      all_served rule (site p k) of (run.here (site p k) (is_here k range)) (acts_of k)
+      (run.genuine (site p k) (is_here k range)) (run.well (site p k) (is_here k range)) m
+      (run.took m (are_sent script older run.history (site p j) m there))
+
+  -- who sent what was taken of these kinds
+  record From (k : ℕ) (m : Message) : Type 0 where
+    rank : ℕ
+    in_range : IsRank rank
+    is : m.from ≡ Process (site p rank)
+    sent : IsIn m (sent_of rank)
+
+  from_rank : (k : ℕ) (m : Message) → IsIn (Took m) (acts_of k) → IsPeer m.body → From k m
+  from_rank k m there peer =
+      let by = from_own_partition script older run.history p (site p k) m refl there peer in
+      record {
+        rank = rank_of m.from;
+        in_range = (site_is script.topology (site p (rank_of m.from)) by.1).1;
+        is = by.0;
+        sent = sent_by_process script older run.history (site p (rank_of m.from)) m
+            (took_sent older (Process (site p k)) m there) by.0;
+      }
+
+  module _ (unknown : (k : ℕ) → IsRank k → Knows p (sheet k) → ⊥) where
+    but_known : {X : Type 0} (k : ℕ) → IsRank k → Knows p (sheet k) ⊎ X → X
+    but_known k range h = elim h [ inl known ↦ absurd (unknown k range known) | inr rest ↦ rest ]
+
+    tried : (j : ℕ) → IsRank j → ((sheet j).tried ≡ 0)
+        ⊎ ((script.topology.replicas < (sheet j).tried) × (owner script.topology (sheet j).tried ≡ j))
+    tried j range = ((facts j range).sheets c.id).proposer.own
+
+    -- what is put, with the message that put it
+    record Put (j : ℕ) : Type 0 where
+      put : PutStamp
+      is : (sheet j).put ≡ Some put
+      spread : IsSpread rule (site p j) of (sent_of j) c.id put
+      same_size : length put.votes ≡ script.topology.replicas
+
+    put_of_rank : (j : ℕ) → IsRank j → 0 < ballot_put (sheet j).put → Put j
+    put_of_rank j range some = by_put (sheet j).put refl some
+      where
+        by_put : (o : Option PutStamp) → (sheet j).put ≡ o → 0 < ballot_put o → Put j
+        by_put None is positive = absurd (omega (arith, positive))
+        by_put (Some put) is positive = record {
+          put = put;
+          is = is;
+          spread = subst (IfAny (IsSpread rule (site p j) of (sent_of j) c.id)) is (standing j range).spread;
+          same_size = subst (IfAny (λ (x : PutStamp). length x.votes ≡ script.topology.replicas)) is
+              ((facts j range).sheets c.id).places.voted;
+        }
+
+    first : (j : ℕ) → IsRank j → 0 < ballot_put (sheet j).put → ballot_put (sheet j).put ≤ script.topology.replicas
+        → j ≡ c.home.0
+    first j range some low =
+        let x = put_of_rank j range some in
+        let putter : IsPutter of (acts_of j) (sent_of j) c.id x.put =
+        subst (IfAny (IsPutter of (acts_of j) (sent_of j) c.id)) x.is ((facts j range).sheets c.id).putter in
+        let w = putter.was_put in
+        let is_c : w.message.body ≡ MConsensus c (stamp x.put.stamp) x.put.ballot =
+        w.is ∙ ap (λ (d : Command). MConsensus d (stamp x.put.stamp) x.put.ballot) (sym ours) in
+        let was = put_of (facts j range) w.message c (stamp x.put.stamp) x.put.ballot w.there is_c in
+        let at : ballot_put (sheet j).put ≡ x.put.ballot = ap ballot_put x.is in
+        sym (ap (λ (d : Command). d.home.0) ours ∙ (was.first (omega (arith, at, low))).1)
+
+    asked : (j k : ℕ) → IsRank j → IsRank k → 0 < (sheet j).tried → (sheet j).tried ≤ (sheet k).ballot
+    asked j k range_j range_k some =
+        let question = subst
+        (λ (d : Command). IsIn (message (Process (site p j)) (Process (site p k)) (MRec d (sheet j).tried)) (sent_of j))
+        (sym ours) (((standing j range_j).asked some).question k range_k) in
+        but_known k range_k (served j k range_k (MRec c (sheet j).tried) question)
+
+    source : (k : ℕ) → IsRank k → 0 < (sheet k).ballot
+        → PutBy rule sheet (sheet k).ballot ⊎ AskedBy rule sheet k (sheet k).ballot
+    source k range some = elim ((standing k range).joined some) [
+      | inl put ↦ inl (by_put put.0 put.1)
+      | inr answered ↦ by_answer answered
+    ]
+      where
+        by_put : (t : ℕ) → WasTaken (acts_of k) (MConsensus (of c.id) (stamp t) (sheet k).ballot)
+            → PutBy rule sheet (sheet k).ballot
+        by_put t w =
+            let is_c : w.message.body ≡ MConsensus c (stamp t) (sheet k).ballot =
+            w.is ∙ ap (λ (d : Command). MConsensus d (stamp t) (sheet k).ballot) (sym ours) in
+            let from = from_rank k w.message w.there (subst IsPeer (sym is_c) tt) in
+            record {
+              by = from.rank;
+              in_range = from.in_range;
+              low = (put_of (facts from.rank from.in_range) w.message c (stamp t) (sheet k).ballot from.sent is_c).below;
+            }
+
+        by_answer : HasAnswered (site p k) (acts_of k) (sent_of k) (of c.id) (sheet k).ballot
+            → PutBy rule sheet (sheet k).ballot ⊎ AskedBy rule sheet k (sheet k).ballot
+        by_answer h =
+            let from = from_rank k h.question h.taken (subst IsPeer (sym h.asks) tt) in
+            let back = subst
+            (λ (a : ActorName). IsIn
+            (message (Process (site p k)) a (MRecAck (of c.id).id h.stamp h.made h.accepted (sheet k).ballot)) (sent_of k))
+            from.is h.answered in
+            let back_c = subst
+            (λ (d : Command). IsIn
+            (message (Process (site p k)) (Process (site p from.rank)) (MRecAck d.id h.stamp h.made h.accepted (sheet k).ballot))
+            (sent_of k)) (sym ours) back in
+            counted from.rank from.in_range
+            (but_known from.rank from.in_range (served k from.rank from.in_range
+            (MRecAck c.id h.stamp h.made h.accepted (sheet k).ballot) back_c))
+
+          where
+            counted : (j : ℕ) → IsRank j
+                → ((sheet k).ballot < (sheet j).tried) ⊎ (((sheet k).ballot ≤ ballot_put (sheet j).put)
+                ⊎ (((sheet j).tried ≡ (sheet k).ballot) × (is_some (kept_at (sheet j).answers k) ≡ true)))
+                → PutBy rule sheet (sheet k).ballot ⊎ AskedBy rule sheet k (sheet k).ballot
+            counted j range (inl beyond) = inr (record {
+              by = j;
+              in_range = range;
+              low = omega (arith, beyond);
+              answered = λ same. absurd (omega (arith, beyond, same));
+            })
+            counted j range (inr (inl put)) = inl (record { by = j; in_range = range; low = put })
+            counted j range (inr (inr there)) = inr (record {
+              by = j;
+              in_range = range;
+              low = omega (arith, there.0);
+              answered = λ same. inr there.1;
+            })
+
+    voted : (j k : ℕ) → IsRank j → IsRank k → 0 < ballot_put (sheet j).put
+        → (ballot_put (sheet j).put < (sheet k).ballot) ⊎ (nth (votes_put (sheet j).put) k ≡ Some true)
+    voted j k range_j range_k some =
+        let x = put_of_rank j range_j some in
+        let at : ballot_put (sheet j).put ≡ x.put.ballot = ap ballot_put x.is in
+        let sent_c = subst
+        (λ (d : Command). IsIn
+        (message (Process (site p j)) (Process (site p k)) (MConsensus d (stamp x.put.stamp) x.put.ballot)) (sent_of j))
+        (sym ours) (x.spread k range_k) in
+        elim (but_known k range_k (served j k range_k (MConsensus c (stamp x.put.stamp) x.put.ballot) sent_c)) [
+          | inl beyond ↦ inl (omega (arith, at, beyond))
+          | inr vote ↦ elim (but_known j range_j (served k j range_j (MConsensusAck c.id x.put.ballot) vote)) [
+              | inl above ↦ absurd (omega (arith, at, above))
+              | inr counted ↦ inr counted.1
+            ]
+        ]
