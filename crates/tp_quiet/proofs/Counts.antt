@@ -56,7 +56,7 @@ abbrev IsNoAnswer : Body → Type 0
 IsNoAnswer (MRecAck id t made a b) = ⊥
 IsNoAnswer _ = Unit {0}
 
-abbrev IsActWith : (Body → Type 0) → Act → Type 0
+abbrev pub IsActWith : (Body → Type 0) → Act → Type 0
 IsActWith P (Took m) = P m.body
 IsActWith P (Did inner) = Unit {0}
 
@@ -188,19 +188,20 @@ module _ (s : QuorumRule) (me : Site) where
       fewer apart tried (inr (inr few)) =
           inr (inr (omega (arith, apart, few, present_with (state.sheets id).answers (rank_of from) answer_here)))
 
+  -- an admitted message does what the rule of its kind says, another nothing
+  pub admitted : (P : ProcessState → Type 0) (m : Message) (state : ProcessState) → P state
+      → P (on_body s me m.from m.body state).0 → P (react s me (Took m) state).0
+  admitted P m state stays goes =
+      let names : Bool =
+      same_name m.to (Process me) && is_name_of s.shape m.from && is_body_at s.shape me.partition.0 m.body in
+      let moved : Step = on_body s me m.from m.body state in
+      cond_both names (with_room state moved) (state, []) (λ (x : Step). P x.0)
+      (λ y. cond_both (nat_lt moved.0.clock STAMP_LIMIT) moved (state, []) (λ (x : Step). P x.0)
+      (λ room. goes) (λ none. stays))
+      (λ n. stays)
+
   -- each act leaves too few votes and answers
   module _ (of : CommandId → Command) (here : IsHere s me) (acts : List Act) (sent : List Message) where
-    admitted : (P : ProcessState → Type 0) (m : Message) (state : ProcessState) → P state
-        → P (on_body s me m.from m.body state).0 → P (react s me (Took m) state).0
-    admitted P m state stays goes =
-        let names : Bool =
-        same_name m.to (Process me) && is_name_of s.shape m.from && is_body_at s.shape me.partition.0 m.body in
-        let moved : Step = on_body s me m.from m.body state in
-        cond_both names (with_room state moved) (state, []) (λ (x : Step). P x.0)
-        (λ y. cond_both (nat_lt moved.0.clock STAMP_LIMIT) moved (state, []) (λ (x : Step). P x.0)
-        (λ room. goes) (λ none. stays))
-        (λ n. stays)
-
     by_step : (act : Act) (state : ProcessState) → IsActWith IsNoVote act → IsGenuine of act
         → ((i : CommandId) → SheetFacts s me of acts sent i (state.sheets i))
         → ((i : CommandId) → IsUndecided s me.partition.0 (state.sheets i)) → (id : CommandId)

@@ -15,3 +15,4 @@ pub mod Proposals
 pub mod Replies
 pub mod AllStanding
 pub mod Stuck
+pub mod OwnCounted

@@ -12,7 +12,7 @@ use Rattle.tp_base.specs.declared.names.CommandId.{CommandId}
 use Rattle.tp_base.specs.declared.names.Made.{Made}
 use Rattle.tp_base.specs.declared.names.Made.TheVariants.{Proposal, Recovery}
 use Rattle.tp_base.specs.declared.names.Site.{Site}
-use Rattle.tp_facts.proofs.AcceptorKept.{carried}
+use Rattle.tp_facts.proofs.AcceptorKept.{at_home, carried}
 use Rattle.tp_facts.proofs.Facts.{IsGenuine}
 use Rattle.tp_facts.proofs.StepCases.{SheetStep, submits, submits_and_acknowledges, proposes, proposes_and_answers_recovery}
 use Rattle.tp_ops.specs.declared.command.Command.{Command}
@@ -47,7 +47,8 @@ module _ (s : QuorumRule) (me : Site) (of : CommandId → Command) where
   -- by whom a proposal was made
   abbrev pub HasReason : List Act → List Message → CommandId → ℕ → Made → Type 0
   HasReason acts sent id ballot Recovery = 0 < ballot
-  HasReason acts sent id ballot Proposal = ToMembers sent (of id) ⊎ HasAcknowledged me acts sent (of id)
+  HasReason acts sent id ballot Proposal = (((of id).home.0 ≡ me.rank.0) × ToMembers sent (of id))
+      ⊎ HasAcknowledged me acts sent (of id)
 
   abbrev pub IsReasoned : List Act → List Message → CommandId → ℕ → Option Proposed → Type 0
   IsReasoned acts sent id ballot None = Unit {0}
@@ -57,7 +58,7 @@ module _ (s : QuorumRule) (me : Site) (of : CommandId → Command) where
       → old ≤ new → HasReason acts sent id old made → HasReason (act ∷ acts) (out ++ sent) id new made
   reason_more act acts sent out id old new Recovery le h = omega (arith, le, h)
   reason_more act acts sent out id old new Proposal le (inl h) =
-      inl (λ j range other member. let x = h j range other member in (x.0, in_right out sent _ x.1))
+      inl (h.0, λ j range other member. let x = h.1 j range other member in (x.0, in_right out sent _ x.1))
   reason_more act acts sent out id old new Proposal le (inr h) = inr (record {
     question = h.question;
     taken = inr h.taken;
@@ -127,9 +128,11 @@ module _ (s : QuorumRule) (me : Site) (of : CommandId → Command) where
       → IsReasoned acts sent id old.ballot old.proposal
       → IsReasoned (act ∷ acts) (out ++ sent) id new.ballot new.proposal
   reasoned_kept {old = old} acts sent (submits {m} c t e home fresh) genuine goes h =
-      inl (submitted_to_members c (of c.id) t _ sent (carried of m _ e genuine).0)
+      let ours = (carried of m _ e genuine).0 in
+      inl (at_home c (of c.id) me.rank.0 ours home, submitted_to_members c (of c.id) t _ sent ours)
   reasoned_kept {old = old} acts sent (submits_and_acknowledges {m} c t e home fresh can) genuine goes h =
-      inl (submitted_to_members c (of c.id) t _ sent (carried of m _ e genuine).0)
+      let ours = (carried of m _ e genuine).0 in
+      inl (at_home c (of c.id) me.rank.0 ours home, submitted_to_members c (of c.id) t _ sent ours)
   reasoned_kept acts sent (proposes {m} c floor t e le fresh) genuine goes h =
       inr (acknowledges_home m acts sent _ c floor t e (carried of m _ e genuine).0)
   reasoned_kept acts sent (proposes_and_answers_recovery c b t e none low nothing unjoined) genuine goes h =

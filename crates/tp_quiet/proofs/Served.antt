@@ -80,7 +80,7 @@ module _ (s : QuorumRule) (me : Site) (of : CommandId → Command) where
   touched_stays old new goes (inr (inl joined)) = inr (inl (omega (arith, goes.ballot)))
   touched_stays old new goes (inr (inr some)) = inr (inr (goes.proposed some))
 
-  acknowledged_stays : (from : ActorName) (old new : Sheet) → Onward old new → IsAcknowledged from old
+  pub acknowledged_stays : (from : ActorName) (old new : Sheet) → Onward old new → IsAcknowledged from old
       → IsAcknowledged from new
   acknowledged_stays from old new goes (inl known) = inl (goes.knows me.partition.0 known)
   acknowledged_stays from old new goes (inr (inl joined)) = inr (inl (omega (arith, goes.ballot)))

@@ -10,9 +10,11 @@ use Rattle.tp_base.specs.Lists.{Each, IsIn}
 use Rattle.tp_base.specs.declared.names.ActorName.{ActorName}
 use Rattle.tp_base.specs.declared.names.ActorName.TheVariants.{Process}
 use Rattle.tp_base.specs.declared.names.CommandId.{CommandId}
+use Rattle.tp_base.specs.declared.names.Made.{Made}
+use Rattle.tp_base.specs.declared.names.Made.TheVariants.{Proposal, Recovery}
 use Rattle.tp_base.specs.declared.names.Site.{Site}
 use Rattle.tp_facts.proofs.Commands.{command_in, command_in_names}
-use Rattle.tp_facts.proofs.Consequences.{put_of}
+use Rattle.tp_facts.proofs.Consequences.{put_of, said_of}
 use Rattle.tp_facts.proofs.Deliveries.{took_sent}
 use Rattle.tp_facts.proofs.Facts.{IsGenuine, IsHere, IsPutter, WasTaken, sent_by}
 use Rattle.tp_facts.proofs.RuleTests.{ballot_put}
@@ -32,20 +34,23 @@ use Rattle.tp_rules.specs.Addresses.{is_between, is_site_of, message, rank_of, s
 use Rattle.tp_rules.specs.Journal.{IsSent, act_of, acts}
 use Rattle.tp_rules.specs.Process.{state_after}
 use Rattle.tp_rules.specs.Runs.{IsFreeHistory, outputs_by, outputs_in}
-use Rattle.tp_rules.specs.Sheet.{QuorumRule, Sheet, ring_rule}
+use Rattle.tp_rules.specs.Sheet.{Proposed, QuorumRule, Sheet, is_made_by_proposal, ring_rule}
 use Rattle.tp_rules.specs.Tables.{kept_at, nth}
 use Rattle.tp_rules.specs.declared.event.Entry.{Entry}
 use Rattle.tp_script.specs.Accepted.{IsAccepted}
 use Rattle.tp_script.specs.declared.script.Script.{Script}
 use Rattle.tp_topology.specs.Ballots.{owner}
 use Rattle.tp_wire.specs.declared.message.Body.{Body}
-use Rattle.tp_wire.specs.declared.message.Body.TheVariants.{MConsensus, MConsensusAck, MRec, MRecAck}
+use Rattle.tp_wire.specs.declared.message.Body.TheVariants.{MConsensus, MConsensusAck, MPropose, MProposeAck, MRec, MRecAck, MSubmit}
 use Rattle.tp_wire.specs.declared.message.Message.{Message}
 use Rattle.tp_quiet.proofs.AllServed.{AreTakenWell, all_served}
 use Rattle.tp_quiet.proofs.AllStanding.{IsStanding, all_standing}
+use Rattle.tp_quiet.proofs.Counts.{IsActWith}
 use Rattle.tp_quiet.proofs.Gains.{votes_put}
 use Rattle.tp_quiet.proofs.NotStuck.{AskedBy, Found, IsStuck, PutBy, find_rank, not_stuck}
-use Rattle.tp_quiet.proofs.Served.{IsAnswerCounted, IsJoined, IsServed, IsVoteCounted, IsVoted, Knows}
+use Rattle.tp_quiet.proofs.OwnCounted.{IsToAnother, all_own}
+use Rattle.tp_quiet.proofs.Proposals.{HasAcknowledged, HasReason, IsReasoned}
+use Rattle.tp_quiet.proofs.Served.{IsAcknowledged, IsAnswerCounted, IsJoined, IsServed, IsVoteCounted, IsVoted, Knows}
 use Rattle.tp_quiet.proofs.Standing.{HasAnswered, IsSpread}
 
 -- what a process sent by its acts was sent
@@ -77,6 +82,8 @@ pub record IsTakenIn (script : Script) (older : List Entry) : Type 0 where
       → Each (IsGenuine (command_in script.commands)) (acts older (Process k))
   pub well : (k : Site) (is : is_site_of script.topology k ≡ true)
       → AreTakenWell (ring_rule script.topology) k (command_in script.commands) (here k is) (acts older (Process k))
+  pub to_others : (k : Site) → is_site_of script.topology k ≡ true
+      → Each (IsActWith (IsToAnother k)) (acts older (Process k))
 
 module _ (script : Script) (older : List Entry) (run : IsTakenIn script older) (p : ℕ)
     (part : IsFrom 1 script.topology.partitions p) (c : Command) (ours : c ≡ command_in script.commands c.id) where
@@ -257,3 +264,80 @@ module _ (script : Script) (older : List Entry) (run : IsTakenIn script older) (
               | inr counted ↦ inr counted.1
             ]
         ]
+
+  -- the command was submitted to the process of its home
+  pub record IsSubmitted : Type 0 where
+    pub message : Message
+    pub sent : IsSent older message
+    pub to : message.to ≡ Process (site p c.home.0)
+    pub is : message.body ≡ MSubmit c
+
+  module _ (unknown : (k : ℕ) → IsRank k → Knows p (sheet k) → ⊥) (home : IsRank c.home.0) (submitted : IsSubmitted) where
+    but_known_by : {X : Type 0} (k : ℕ) → IsRank k → Knows p (sheet k) ⊎ X → X
+    but_known_by k range h = but_known unknown k range h
+
+    home_touched : (0 < (sheet c.home.0).ballot) ⊎ (is_none (sheet c.home.0).proposal ≡ false)
+    home_touched =
+        let there = subst (λ (a : ActorName). IsIn (Took submitted.message) (acts older a)) submitted.to
+        (run.took submitted.message submitted.sent) in
+        let at = is_here c.home.0 home in
+        let serves = all_served rule (site p c.home.0) of (run.here (site p c.home.0) at) (acts_of c.home.0)
+        (run.genuine (site p c.home.0) at) (run.well (site p c.home.0) at) submitted.message there in
+        but_known_by c.home.0 home
+        (subst
+        (λ (body : Body). IsServed rule (site p c.home.0) of (sent_of c.home.0) submitted.message.from
+        (state_after rule (site p c.home.0) (acts_of c.home.0)).sheets body)
+        submitted.is serves refl)
+
+    -- the acknowledgement of a member is counted, or no longer matters
+    abbrev IsCounted : ℕ → Type 0
+    IsCounted j = (0 < (sheet c.home.0).ballot) ⊎ ((0 < ballot_put (sheet c.home.0).put)
+        ⊎ ((0 < (sheet j).ballot) ⊎ (is_some (kept_at (sheet c.home.0).acknowledged j) ≡ true)))
+
+    counted_from : (j : ℕ) → IsAcknowledged rule (site p c.home.0) of (Process (site p j)) (sheet c.home.0)
+        → IsCounted j
+    counted_from j h = elim (but_known_by c.home.0 home h) [
+      | inl joined ↦ inl joined
+      | inr (inl put) ↦ inr (inl put)
+      | inr (inr there) ↦ inr (inr (inr there))
+    ]
+
+    -- what a member did with the home's proposal
+    member_counted : (j : ℕ) → IsRank j → (j ≡ c.home.0 → ⊥) → rule.in_quorum c j ≡ true → (t : ℕ)
+        → IsIn (message (Process (site p c.home.0)) (Process (site p j)) (MPropose c (stamp t))) (sent_of c.home.0)
+        → IsCounted j
+    member_counted j range other member t sent =
+        elim (but_known_by j range (served c.home.0 j range (MPropose c (stamp t)) sent)) [
+          | inl joined ↦ inr (inr (inl joined))
+          | inr some ↦ by_proposal (sheet j).proposal some (standing j range).reasoned
+        ]
+      where
+        same_named : (i : CommandId) → c.id ≡ i → c ≡ of i
+        same_named i same = subst (λ (x : CommandId). c ≡ of x) same ours
+
+        back : HasAcknowledged (site p j) (acts_of j) (sent_of j) (of c.id) → IsCounted j
+        back h =
+            let asks_c : h.question.body ≡ MPropose c (stamp h.floor) =
+            h.asks ∙ ap (λ (d : Command). MPropose d (stamp h.floor)) (sym ours) in
+            let from = from_rank j h.question h.taken (subst IsPeer (sym asks_c) tt) in
+            let said = said_of (facts from.rank from.in_range) h.question (MPropose c (stamp h.floor)) from.sent asks_c in
+            let at_home : from.rank ≡ c.home.0 =
+            sym (ap (λ (d : Command). d.home.0) (same_named said.0 said.1.0) ∙ said.1.1) in
+            let answer = subst
+            (λ (a : ActorName). IsIn (message (Process (site p j)) a (MProposeAck (of c.id).id (stamp h.proposed))) (sent_of j))
+            (from.is ∙ ap (λ (k : ℕ). Process (site p k)) at_home) h.answered in
+            let answer_c = subst
+            (λ (d : Command). IsIn (message (Process (site p j)) (Process (site p c.home.0)) (MProposeAck d.id (stamp h.proposed))) (sent_of j))
+            (sym ours) answer in
+            counted_from j (served j c.home.0 home (MProposeAck c.id (stamp h.proposed)) answer_c
+            (subst (λ (d : Command). rule.in_quorum d j ≡ true) ours member))
+
+        by_made : (made : Made) → HasReason rule (site p j) of (acts_of j) (sent_of j) c.id (sheet j).ballot made → IsCounted j
+        by_made Recovery h = inr (inr (inl h))
+        by_made Proposal (inl h) = absurd (other (sym (ap (λ (d : Command). d.home.0) ours ∙ h.0)))
+        by_made Proposal (inr h) = back h
+
+        by_proposal : (o : Option Proposed) → is_none o ≡ false
+            → IsReasoned rule (site p j) of (acts_of j) (sent_of j) c.id (sheet j).ballot o → IsCounted j
+        by_proposal None some h = absurd cc
+        by_proposal (Some q) some h = by_made q.made h
