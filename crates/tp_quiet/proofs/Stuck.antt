@@ -1,9 +1,10 @@
 -- Where each message was taken, admitted and in time, and a full fast quorum acknowledged, some process of a partition knows
 -- the stamp of a command.
 -- Used for each command and each of its partitions in a run in which nothing is pending.
-use Rattle.std.proofs.Common.{◌≡◌, ◌⊎◌, ℕ, ◌<◌, ◌≤◌, Bool, inl, inr, true, false, List, [], ◌∷◌, ◌++◌, length, max, Option, Some, None, is_some, refl, sym, ap, subst, ◌∙◌, arith}
+use Rattle.std.proofs.Common.{◌≡◌, ◌≢◌, ◌⊎◌, ℕ, ◌<◌, ◌≤◌, Bool, inl, inr, true, false, List, [], ◌∷◌, ◌++◌, length, max, Option, Some, None, is_some, refl, sym, ap, subst, ◌∙◌, arith}
 use Rattle.std.specs.Prelude.{is_none}
-use Rattle.std.proofs.lemmas.Bool.{and_from}
+use Rattle.std.proofs.lemmas.Bool.{and_from, both_ways, cases_eq, cases_lt}
+use Rattle.tp_base.proofs.Each.{each_in}
 use Rattle.tp_base.proofs.Members.{in_either}
 use Rattle.tp_base.specs.Limits.{IsFrom}
 use Rattle.tp_base.specs.Lists.{Each, IsIn}
@@ -34,7 +35,7 @@ use Rattle.tp_rules.specs.Addresses.{is_between, is_site_of, message, rank_of, s
 use Rattle.tp_rules.specs.Journal.{IsSent, act_of, acts}
 use Rattle.tp_rules.specs.Process.{state_after}
 use Rattle.tp_rules.specs.Runs.{IsFreeHistory, outputs_by, outputs_in}
-use Rattle.tp_rules.specs.Sheet.{Proposed, QuorumRule, Sheet, is_made_by_proposal, ring_rule}
+use Rattle.tp_rules.specs.Sheet.{Proposed, QuorumRule, Sheet, is_made_by_proposal, is_proposal, ring_rule, stamp_of}
 use Rattle.tp_rules.specs.Tables.{kept_at, nth}
 use Rattle.tp_rules.specs.declared.event.Entry.{Entry}
 use Rattle.tp_script.specs.Accepted.{IsAccepted}
@@ -341,3 +342,97 @@ module _ (script : Script) (older : List Entry) (run : IsTakenIn script older) (
             → IsReasoned rule (site p j) of (acts_of j) (sent_of j) c.id (sheet j).ballot o → IsCounted j
         by_proposal None some h = absurd cc
         by_proposal (Some q) some h = by_made q.made h
+
+    own_counted : is_made_by_proposal (sheet c.home.0).proposal ≡ true → rule.in_quorum c c.home.0 ≡ true
+        → IsCounted c.home.0
+    own_counted made member =
+        let at = is_here c.home.0 home in
+        let own = all_own rule (site p c.home.0) of (run.here (site p c.home.0) at) (acts_of c.home.0)
+        (run.genuine (site p c.home.0) at) (run.to_others (site p c.home.0) at) c.id in
+        counted_from c.home.0 (own (ap (λ (d : Command). d.home.0) (sym ours))
+        (subst (λ (d : Command). rule.in_quorum d c.home.0 ≡ true) ours member) made)
+
+    all_counted : ((0 < (sheet c.home.0).ballot) → ⊥) → (j : ℕ) → IsRank j → rule.in_quorum c j ≡ true → IsCounted j
+    all_counted unjoined j range member = elim home_touched [
+      | inl joined ↦ absurd (unjoined joined)
+      | inr some ↦ by_proposal (sheet c.home.0).proposal refl some (standing c.home.0 home).reasoned
+    ]
+      where
+        by_place : ((k : ℕ) → IsRank k → k ≢ c.home.0 → rule.in_quorum c k ≡ true → (t : ℕ)
+            × IsIn (message (Process (site p c.home.0)) (Process (site p k)) (MPropose c (stamp t))) (sent_of c.home.0))
+            → is_made_by_proposal (sheet c.home.0).proposal ≡ true → IsCounted j
+        by_place to_members made = elim (cases_eq j c.home.0) [
+          | inl same ↦ subst IsCounted (sym same)
+              (own_counted made (subst (λ (k : ℕ). rule.in_quorum c k ≡ true) same member))
+          | inr apart ↦
+              let x = to_members j range apart member in
+              member_counted j range apart member x.0 x.1
+        ]
+
+        by_made : (made : Made) → is_proposal made ≡ is_made_by_proposal (sheet c.home.0).proposal
+            → HasReason rule (site p c.home.0) of (acts_of c.home.0) (sent_of c.home.0) c.id (sheet c.home.0).ballot made
+            → IsCounted j
+        by_made Recovery e h = absurd (unjoined h)
+        by_made Proposal e (inl h) = by_place
+            (subst
+            (λ (d : Command). (k : ℕ) → IsRank k → k ≢ c.home.0 → rule.in_quorum d k ≡ true → (t : ℕ)
+            × IsIn (message (Process (site p c.home.0)) (Process (site p k)) (MPropose d (stamp t))) (sent_of c.home.0))
+            (sym ours) h.1) (sym e)
+        by_made Proposal e (inr h) =
+            let another = each_in (IsActWith (IsToAnother (site p c.home.0))) (acts_of c.home.0) (Took h.question)
+            (run.to_others (site p c.home.0) (is_here c.home.0 home)) h.taken in
+            absurd (subst (IsToAnother (site p c.home.0)) h.asks another (ap (λ (d : Command). d.home.0) (sym ours)))
+
+        by_proposal : (o : Option Proposed) → (sheet c.home.0).proposal ≡ o → is_none o ≡ false
+            → IsReasoned rule (site p c.home.0) of (acts_of c.home.0) (sent_of c.home.0) c.id (sheet c.home.0).ballot o
+            → IsCounted j
+        by_proposal None is some h = absurd cc
+        by_proposal (Some q) is some h =
+            by_made q.made (sym (ap (λ (o : Option Proposed). is_made_by_proposal o) is)) h
+
+    acknowledged : (0 < (sheet c.home.0).ballot) ⊎ ((0 < ballot_put (sheet c.home.0).put)
+        ⊎ ((j : ℕ) → IsRank j → rule.in_quorum c j ≡ true
+        → (0 < (sheet j).ballot) ⊎ (is_some (kept_at (sheet c.home.0).acknowledged j) ≡ true)))
+    acknowledged = elim (cases_lt 0 (sheet c.home.0).ballot) [
+      | inl joined ↦ inl joined
+      | inr unjoined ↦ elim (cases_lt 0 (ballot_put (sheet c.home.0).put)) [
+          | inl put ↦ inr (inl put)
+          | inr unput ↦ inr (inr (λ j range member.
+              elim (all_counted (λ joined. omega (arith, joined, unjoined)) j range member) [
+                | inl joined ↦ absurd (omega (arith, joined, unjoined))
+                | inr (inl put) ↦ absurd (omega (arith, put, unput))
+                | inr (inr rest) ↦ rest
+              ]))
+        ]
+    ]
+
+    stuck : IsStuck rule sheet c
+    stuck = record {
+      tried = tried unknown;
+      put = λ j range. ((facts j range).sheets c.id).proposer.below;
+      first = first unknown;
+      asked = asked unknown;
+      source = source unknown;
+      voted = voted unknown;
+      undecided = λ j range. but_known_by j range (standing j range).undecided;
+      unrecovered = λ j range. but_known_by j range (standing j range).unanswered;
+      home = home;
+      ungathered = but_known_by c.home.0 home (standing c.home.0 home).heeded;
+      acknowledged = acknowledged;
+      votes = λ j range some.
+          let x = put_of_rank unknown j range some in ap (λ (o : Option PutStamp). length (votes_put o)) x.is ∙ x.same_size;
+      answers = λ j range. ((facts j range).sheets c.id).places.answered;
+      acknowledgements = ((facts c.home.0 home).sheets c.id).places.acknowledgements;
+    }
+
+  -- some process of the partition knows the stamp
+  pub someone_knows : IsRank c.home.0 → IsSubmitted → (k : ℕ) × IsRank k × Knows p (sheet k)
+  someone_knows home submitted =
+      elim (find_rank (λ k. is_some (stamp_of (sheet k) p)) script.topology.replicas) [
+        | inl found ↦ (found.rank, found.in_range, found.is)
+        | inr none ↦
+            let unknown : (k : ℕ) → IsRank k → Knows p (sheet k) → ⊥ =
+            (λ k range known. both_ways (is_some (stamp_of (sheet k) p)) (none k range) known) in
+            let whole = ring_has_fast_size script.topology run.accepted.shape c home.0 home.1 in
+            absurd (not_stuck rule c sheet run.accepted.shape (omega (arith, whole)) (stuck unknown home submitted))
+      ]
