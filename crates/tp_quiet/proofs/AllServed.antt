@@ -11,6 +11,7 @@ use Rattle.tp_facts.proofs.ActSteps.{step_of_act}
 use Rattle.tp_facts.proofs.Consequences.{put_of}
 use Rattle.tp_facts.proofs.Facts.{IsHere, IsGenuine, IsPutter, ProcessFacts, sent_by}
 use Rattle.tp_facts.proofs.Invariant.{facts_hold}
+use Rattle.tp_facts.proofs.SamePartition.{IsPeer}
 use Rattle.tp_ops.specs.declared.command.Command.{Command}
 use Rattle.tp_paxos.specs.Votes.{PutStamp}
 use Rattle.tp_rules.proofs.Selections.{IfAny}
@@ -28,7 +29,7 @@ module _ (s : QuorumRule) (me : Site) (of : CommandId → Command) (here : IsHer
   pub record IsTakenWell (before : List Act) (m : Message) : Type 0 where
     pub admitted : IsAdmitted s me (state_after s me before) m
     pub timely : IsTimely s me of (state_after s me before).sheets m.body
-    pub rank : IsFrom 1 s.shape.replicas (rank_of m.from)
+    pub rank : IsPeer m.body → IsFrom 1 s.shape.replicas (rank_of m.from)
 
   abbrev pub AreTakenWell : List Act → Type 0
   AreTakenWell [] = Unit {0}
@@ -90,6 +91,6 @@ module _ (s : QuorumRule) (me : Site) (of : CommandId → Command) (here : IsHer
       (served_stays s me of (react s me (Took n) state).1 (sent_by s me (Took n ∷ before)) n.from
       (state_after s me (Took n ∷ before)).sheets (state_after s me (Took n ∷ before)).sheets n.body
       (λ id. onward_itself _) (λ x there. in_left (react s me (Took n) state).1 (sent_by s me before) x there)
-      (message_serves s me of n state (places before (rank_of n.from) taken.1.rank h) taken.1.admitted taken.1.timely
+      (message_serves s me of n state (λ peer. places before (rank_of n.from) (taken.1.rank peer) h) taken.1.admitted taken.1.timely
       (λ c. (h.sheets c).places.stamps)))
   all_served (Did inner ∷ before) genuine taken m (inl same) = absurd cc

@@ -17,6 +17,7 @@ use Rattle.tp_base.specs.declared.names.Site.{Site}
 use Rattle.tp_choice.specs.Choosing.{recovery_choice}
 use Rattle.tp_choice.specs.declared.answer.RecoveryAnswer.{RecoveryAnswer}
 use Rattle.tp_facts.proofs.RuleTests.{ballot_put}
+use Rattle.tp_facts.proofs.SamePartition.{IsPeer}
 use Rattle.tp_facts.proofs.Tables.{kept_here}
 use Rattle.tp_ops.specs.Parts.{is_accessed}
 use Rattle.tp_ops.specs.declared.command.Command.{Command}
@@ -333,29 +334,30 @@ module _ (s : QuorumRule) (me : Site) where
     pub room : nat_lt (on_body s me m.from m.body state).0.clock STAMP_LIMIT ≡ true
 
   module _ (of : CommandId → Command) (m : Message) (state : ProcessState)
-      (places : HasPlaces me.partition.0 (rank_of m.from) state.sheets) where
+      (places : IsPeer m.body → HasPlaces me.partition.0 (rank_of m.from) state.sheets) where
     abbrev IsServedBy : Step → Type 0
     IsServedBy moved = IsServed s me of moved.1 m.from moved.0.sheets m.body
 
     -- the rule of each kind of message
-    body_serves : (body : Body) → IsTimely s me of state.sheets body → is_body_at s.shape me.partition.0 body ≡ true
+    body_serves : (body : Body) → m.body ≡ body → IsTimely s me of state.sheets body
+        → is_body_at s.shape me.partition.0 body ≡ true
         → ((c : CommandId) (q : ℕ) → q ≤ s.shape.partitions → q ≤ length (state.sheets c).known)
         → IsServed s me of (on_body s me m.from body state).1 m.from (on_body s me m.from body state).0.sheets body
-    body_serves (MSubmit c) timely names sized = λ home. serve_submit of m.from state c home
-    body_serves (MPropose c floor) timely names sized = serve_propose of m.from state c floor.0
-    body_serves (MProposeAck id t) timely names sized =
-        λ member. serve_propose_ack of m.from state id t.0 timely places member
-    body_serves (MConsensus c t b) timely names sized = serve_consensus of m.from state c t.0 b timely
-    body_serves (MConsensusAck id b) timely names sized = serve_vote of m.from state id b timely places
-    body_serves (MCommit c q t) timely names sized =
+    body_serves (MSubmit c) e timely names sized = λ home. serve_submit of m.from state c home
+    body_serves (MPropose c floor) e timely names sized = serve_propose of m.from state c floor.0
+    body_serves (MProposeAck id t) e timely names sized =
+        λ member. serve_propose_ack of m.from state id t.0 timely (places (subst IsPeer (sym e) tt)) member
+    body_serves (MConsensus c t b) e timely names sized = serve_consensus of m.from state c t.0 b timely
+    body_serves (MConsensusAck id b) e timely names sized = serve_vote of m.from state id b timely (places (subst IsPeer (sym e) tt))
+    body_serves (MCommit c q t) e timely names sized =
         let range = between_is q.0 s.shape.partitions
         (and_parts (is_command_at s.shape me.partition.0 c) (is_between q.0 s.shape.partitions) names).1 in
         λ on. serve_commit of m.from state c q.0 t.0 on range.0 (sized c.id q.0 range.1)
-    body_serves (MRec c b) timely names sized =
+    body_serves (MRec c b) e timely names sized =
         serve_rec of m.from state c b timely (stamp_of (state.sheets c.id) me.partition.0) refl
-    body_serves (MRecAck id t made a b) timely names sized =
-        serve_rec_ack of m.from state id t.0 made a b timely places
-    body_serves _ timely names sized = tt
+    body_serves (MRecAck id t made a b) e timely names sized =
+        serve_rec_ack of m.from state id t.0 made a b timely (places (subst IsPeer (sym e) tt))
+    body_serves _ e timely names sized = tt
 
     pub message_serves : IsAdmitted state m → IsTimely s me of state.sheets m.body
         → ((c : CommandId) → length (state.sheets c).known ≡ s.shape.partitions)
@@ -366,7 +368,7 @@ module _ (s : QuorumRule) (me : Site) where
         let moved : Step = on_body s me m.from m.body state in
         cond_both names (with_room state moved) (state, []) IsServedBy
         (λ y. cond_both (nat_lt moved.0.clock STAMP_LIMIT) moved (state, []) IsServedBy
-        (λ room. body_serves m.body timely
+        (λ room. body_serves m.body refl timely
         (and_parts (same_name m.to (Process me) && is_name_of s.shape m.from)
         (is_body_at s.shape me.partition.0 m.body) admitted.names).1
         (λ c q high. omega (arith, high, sized c)))
