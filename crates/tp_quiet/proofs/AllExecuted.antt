@@ -1,11 +1,11 @@
 -- Where no executor has a step to make, all that is committed is executed: the least key that waits anywhere could go on.
 -- Used for the executors in the end.
-use Rattle.std.proofs.Common.{◌≡◌, ◌⊎◌, ℕ, Bool, inl, inr, true, false, cond, List, [], ◌∷◌, Option, Some, None, refl, sym, subst, ◌∙◌, arith}
-use Rattle.std.specs.Prelude.{◌==◌, ◌&&◌, not, filter}
+use Rattle.std.proofs.Common.{◌≡◌, ℕ, Bool, inl, inr, true, false, cond, List, [], ◌∷◌, Option, Some, None, refl, subst, arith}
+use Rattle.std.specs.Prelude.{◌==◌, ◌&&◌, not}
 use Rattle.std.specs.List.{list_all, flat_map}
-use Rattle.std.proofs.lemmas.Bool.{cases_Bool, and_from, not-true, not-false, not_from_false, eqb-true}
+use Rattle.std.proofs.lemmas.Bool.{cases_Bool, and_from, not-false, not_from_false}
 use Rattle.tp_base.proofs.Members.{flat_in, in_flat}
-use Rattle.tp_base.proofs.SameNames.{key_cases, key_lt_self}
+use Rattle.tp_base.proofs.SameNames.{key_cases}
 use Rattle.tp_base.specs.Lists.{IsIn, has}
 use Rattle.tp_base.specs.Names.{same_id, key_lt}
 use Rattle.tp_base.specs.declared.names.CommandId.{CommandId}
@@ -17,7 +17,6 @@ use Rattle.tp_rules.proofs.Tallies.{filter_in, in_filter}
 use Rattle.tp_rules.proofs.Unexecuted.{least_in}
 use Rattle.tp_rules.specs.Addresses.{accessed, others_accessed, site}
 use Rattle.tp_rules.specs.Executor.{Committed, ExecutorState, committed_ids, enabled, enabled_of, is_heard, is_ready, is_undeclared, least, may_declare, may_execute, waiting}
-use Rattle.tp_rules.specs.declared.event.Inner.{Inner}
 use Rattle.tp_rules.specs.declared.event.Inner.TheVariants.{Declare, Execute}
 use Rattle.tp_topology.specs.Shape.{Shape}
 use Rattle.tp_topology.specs.Stability.{is_stable}
@@ -141,8 +140,8 @@ module _ (shape : Shape) (sites : List Site) (state : Site → ExecutorState) (h
       let here : is_undeclared (state x) c.key.id (others_accessed shape c.command x.partition.0) ≡ false = declared_at x x c is at at.site (h.accesses x c at.site at.committed) in
       let ready : is_ready (state x) c.key.id (others_accessed shape c.command x.partition.0) ≡ true = ready_where (state x) c.key.id _ here heard in
       let not_ready : is_ready (state x) c.key.id (others_accessed shape c.command x.partition.0) ≡ false =
-          subst (λ (z : Command). is_ready (state x) c.key.id (others_accessed shape z x.partition.0) ≡ false) same
-          (subst (λ (z : Key). is_ready (state x) z.id (others_accessed shape s.e.command x.partition.0) ≡ false) s.key (right_false _ _ s.may.execute (h.stable x s.e at.site s.there))) in
+      subst (λ (z : Command). is_ready (state x) c.key.id (others_accessed shape z x.partition.0) ≡ false) same
+      (subst (λ (z : Key). is_ready (state x) z.id (others_accessed shape s.e.command x.partition.0) ≡ false) s.key (right_false _ _ s.may.execute (h.stable x s.e at.site s.there))) in
       cc
     where
       heard : (q : ℕ) → IsIn q (others_accessed shape c.command x.partition.0) → is_heard (state x) c.key.id q ≡ true
@@ -151,8 +150,8 @@ module _ (shape : Shape) (sites : List Site) (state : Site → ExecutorState) (h
           let y : Site = site q 1 in
           let site_y : IsIn y sites = h.places c.command q parts.0 in
           let back : IsIn x.partition.0 (others_accessed shape c.command q) =
-              in_filter (λ (z : ℕ). not (z == q)) (accessed shape c.command) x.partition.0 (h.accesses x c at.site at.committed)
-              (turned q x.partition.0 parts.1) in
+          in_filter (λ (z : ℕ). not (z == q)) (accessed shape c.command) x.partition.0 (h.accesses x c at.site at.committed)
+          (turned q x.partition.0 parts.1) in
           h.heard x y c at.site site_y at.committed there (declared_of (state y) c.key.id (others_accessed shape c.command q) x.partition.0 back (declared_at x y c is at site_y parts.0))
         where
           turned : (a b : ℕ) → not (a == b) ≡ true → not (b == a) ≡ true

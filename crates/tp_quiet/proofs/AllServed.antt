@@ -1,6 +1,6 @@
 -- Each message that a process took left behind what it asks for, where each was admitted and came in time.
 -- Used for each process of a run in which nothing is pending.
-use Rattle.std.proofs.Common.{◌≡◌, ℕ, ◌<◌, ◌≤◌, inl, inr, true, List, [], ◌∷◌, ◌++◌, length, Option, Some, refl, sym, subst, arith}
+use Rattle.std.proofs.Common.{◌≡◌, ℕ, ◌<◌, inl, inr, List, [], ◌∷◌, length, Some, sym, subst, arith}
 use Rattle.std.proofs.lemmas.Bool.{cases_lt}
 use Rattle.tp_base.proofs.Members.{in_left, in_right}
 use Rattle.tp_base.specs.Limits.{IsFrom}
@@ -18,7 +18,7 @@ use Rattle.tp_rules.proofs.Selections.{IfAny}
 use Rattle.tp_rules.specs.Acts.{Act, Took, Did}
 use Rattle.tp_rules.specs.Addresses.{rank_of}
 use Rattle.tp_rules.specs.Process.{react, state_after}
-use Rattle.tp_rules.specs.Sheet.{QuorumRule, Sheet}
+use Rattle.tp_rules.specs.Sheet.{QuorumRule}
 use Rattle.tp_wire.specs.declared.message.Message.{Message}
 use Rattle.tp_quiet.proofs.Onward.{act_onward, onward_itself}
 use Rattle.tp_quiet.proofs.Served.{IsServed, served_stays}
@@ -63,9 +63,9 @@ module _ (s : QuorumRule) (me : Site) (of : CommandId → Command) (here : IsHer
     acknowledgements = λ id. let size = (h.sheets id).places.acknowledgements in omega (arith, range.1, size);
     answered = λ id. let size = (h.sheets id).places.answered in omega (arith, range.1, size);
     voters = λ id put is.
-    let size : length put.votes ≡ s.shape.replicas =
-    subst (IfAny (λ (p : PutStamp). length p.votes ≡ s.shape.replicas)) is (h.sheets id).places.voted in
-    omega (arith, range.1, size);
+        let size : length put.votes ≡ s.shape.replicas =
+        subst (IfAny (λ (p : PutStamp). length p.votes ≡ s.shape.replicas)) is (h.sheets id).places.voted in
+        omega (arith, range.1, size);
     ballots = put_ballot acts h;
   }
 

@@ -1,24 +1,21 @@
 -- After any acts a process has nothing half done.
 -- Used for each process of a run in which nothing is pending.
-use Rattle.std.proofs.Common.{◌≡◌, ◌⊎◌, ℕ, ◌<◌, ◌≤◌, inl, inr, true, false, List, [], ◌∷◌, ◌++◌, length, Option, Some, None, is_some, refl, sym, ap, subst, ◌∙◌, arith}
+use Rattle.std.proofs.Common.{◌≡◌, ℕ, ◌<◌, inl, inr, List, [], ◌∷◌, ◌++◌, length, None, ap, arith}
 use Rattle.std.specs.Prelude.{replicate}
-use Rattle.tp_base.specs.Lists.{Each, IsIn}
+use Rattle.tp_base.specs.Lists.{Each}
 use Rattle.tp_base.specs.declared.names.CommandId.{CommandId}
 use Rattle.tp_base.specs.declared.names.Site.{Site}
-use Rattle.tp_choice.specs.declared.answer.RecoveryAnswer.{RecoveryAnswer}
 use Rattle.tp_facts.proofs.ActSteps.{step_of_act}
 use Rattle.tp_facts.proofs.Facts.{IsGenuine, IsHere, ProcessFacts, sent_by}
 use Rattle.tp_facts.proofs.Invariant.{facts_hold}
-use Rattle.tp_facts.proofs.StepCases.{SheetStep, ProcessStep}
 use Rattle.tp_facts.proofs.Tables.{present_none}
 use Rattle.tp_ops.specs.declared.command.Command.{Command}
-use Rattle.tp_paxos.specs.Votes.{PutStamp}
 use Rattle.tp_quorum.specs.Choice.{present}
 use Rattle.tp_rules.proofs.Selections.{IfAny}
-use Rattle.tp_rules.specs.Acts.{Act, Took, Did}
-use Rattle.tp_rules.specs.Process.{react, start, state_after}
-use Rattle.tp_rules.specs.Sheet.{Proposed, QuorumRule, Sheet, blank, is_made_by_proposal}
-use Rattle.tp_topology.specs.Shape.{IsShape, Shape, fast_size, slow_size}
+use Rattle.tp_rules.specs.Acts.{Act}
+use Rattle.tp_rules.specs.Process.{react, state_after}
+use Rattle.tp_rules.specs.Sheet.{QuorumRule, Sheet, blank}
+use Rattle.tp_topology.specs.Shape.{IsShape}
 use Rattle.tp_wire.specs.declared.message.Message.{Message}
 use Rattle.tp_quiet.proofs.Counts.{IsUnanswered, IsUndecided, act_unanswered, act_undecided}
 use Rattle.tp_quiet.proofs.EachSheet.{each_sheet}

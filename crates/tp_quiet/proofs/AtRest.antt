@@ -1,26 +1,22 @@
 -- In a quiet run without losses and crashes each actor lives, each message was delivered, and nobody has a step to make.
-use Rattle.std.proofs.Common.{◌≡◌, ◌⊎◌, ℕ, zero, suc, ◌+◌, ◌<◌, ◌≤◌, Bool, inl, inr, true, false, cond, List, [], ◌∷◌, ◌++◌, length, map, Option, Some, None, is_some, refl, sym, ap, subst, ◌∙◌, arith}
-use Rattle.std.specs.Prelude.{◌==◌, ◌&&◌, ◌-◌, nat_lt, not, is_none, slice_get, filter, option_map, reverse}
-use Rattle.std.specs.List.{list_any, flat_map, filter_map, cons_option}
-use Rattle.std.proofs.lemmas.Bool.{and_parts, and_from, cond_both, cond-true, cond-false, ltb-true, lt-ltb, eqb-true, not_from_false, cases_Bool, or_parts, or_cases}
-use Rattle.tp_base.proofs.Each.{each_in, each_of}
-use Rattle.tp_base.proofs.Members.{in_get, in_left, in_right, map_in, in_either}
-use Rattle.tp_base.proofs.SameNames.{same_name_refl, same_name_is}
-use Rattle.tp_base.specs.Limits.{IsFrom}
+use Rattle.std.proofs.Common.{◌≡◌, ℕ, suc, ◌<◌, ◌≤◌, Bool, inl, inr, true, false, cond, List, [], ◌∷◌, ◌++◌, length, map, Option, Some, None, refl, sym, ap, subst, ◌∙◌, arith}
+use Rattle.std.specs.Prelude.{◌==◌, ◌&&◌, ◌-◌, not, is_none, filter, option_map}
+use Rattle.std.specs.List.{list_any, filter_map, cons_option}
+use Rattle.std.proofs.lemmas.Bool.{and_parts, and_from, cond_both, cond-false, eqb-true}
+use Rattle.tp_base.proofs.Each.{each_in}
+use Rattle.tp_base.proofs.Members.{in_get, in_left, in_right, map_in}
 use Rattle.tp_base.specs.Lists.{Each, IsIn}
 use Rattle.tp_base.specs.Names.{same_name, same_site}
 use Rattle.tp_base.specs.declared.names.ActorName.{ActorName}
 use Rattle.tp_base.specs.declared.names.ActorName.TheVariants.{Process, Executor, Session}
 use Rattle.tp_base.specs.declared.names.SessionId.{SessionId}
 use Rattle.tp_base.specs.declared.names.Site.{Site}
-
-use Rattle.tp_rules.specs.Acts.{Act, Took, Did}
-use Rattle.tp_rules.specs.Addresses.{is_site_of, is_between}
+use Rattle.tp_rules.specs.Acts.{Act, Took}
 use Rattle.tp_rules.specs.Journal.{acts, act_of, with_act, sent, numbered, output_at, identity_in, is_known, is_live, is_crash, has_crashed, is_delivery_of, IsSent}
-use Rattle.tp_rules.specs.Pending.{sites_of, actors_of, due_item, parcel_item, own_item, inner_item, is_waiting, item, event_by, pending, IsQuiet}
+use Rattle.tp_rules.specs.Pending.{sites_of, actors_of, due_item, parcel_item, own_item, inner_item, is_waiting, pending}
 use Rattle.tp_rules.specs.Plan.{Planned, asked_of, put_in, by_time, plan_of, is_planned, due, due_of, next_line, if_due, entries_of, Fate, Lost, Times, fate_by, fate_of, is_lost_by, repeated_by, times_for_all, first_or, ordinal_of, deliveries, was_lost, left_by, deliveries_left}
 use Rattle.tp_rules.specs.Rules.{enabled}
-use Rattle.tp_rules.specs.Runs.{IsHistory, IsFreeHistory, IsRun, FollowsLine, FollowsPlan, MayHappen, IsFor}
+use Rattle.tp_rules.specs.Runs.{IsHistory, IsFreeHistory, FollowsLine, MayHappen, IsFor}
 use Rattle.tp_rules.specs.declared.event.Entry.{Entry}
 use Rattle.tp_rules.specs.declared.event.Event.{Event}
 use Rattle.tp_rules.specs.declared.event.Event.TheVariants.{Deliver, Dropped, Inner as OfItself}

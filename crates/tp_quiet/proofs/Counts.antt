@@ -1,12 +1,11 @@
 -- Enough votes are a decision, and enough answers to a recovery put a stamp: a process that knows no stamp has too few of
 -- each. Each step keeps this.
 -- Used for each process of a run in which nothing is pending.
-use Rattle.std.proofs.Common.{◌≡◌, ◌⊎◌, ℕ, ◌<◌, ◌≤◌, Bool, inl, inr, true, false, cond, List, [], ◌∷◌, ◌++◌, length, Option, Some, None, is_some, refl, sym, ap, subst, ◌∙◌, arith}
+use Rattle.std.proofs.Common.{◌≡◌, ◌⊎◌, ℕ, ◌<◌, ◌≤◌, Bool, inl, inr, true, false, cond, List, [], length, Option, Some, None, is_some, refl, sym, ap, subst, arith}
 use Rattle.std.specs.Prelude.{◌&&◌, ◌==◌, is_none, nat_le, nat_lt, not, replicate}
-use Rattle.std.proofs.lemmas.Bool.{and_parts, both_ways, cond_both, eqb-false, eqb-true, leb-false}
-use Rattle.tp_base.proofs.SameNames.{same_id_is, same_id_refl}
+use Rattle.std.proofs.lemmas.Bool.{and_parts, cond_both, eqb-false, eqb-true, leb-false}
 use Rattle.tp_base.specs.Limits.{STAMP_LIMIT}
-use Rattle.tp_base.specs.Names.{same_id, same_name}
+use Rattle.tp_base.specs.Names.{same_name}
 use Rattle.tp_base.specs.declared.names.ActorName.{ActorName}
 use Rattle.tp_base.specs.declared.names.ActorName.TheVariants.{Process}
 use Rattle.tp_base.specs.declared.names.CommandId.{CommandId}
@@ -18,7 +17,7 @@ use Rattle.tp_facts.proofs.AcceptorKept.{carried}
 use Rattle.tp_facts.proofs.ActSteps.{step_of_act}
 use Rattle.tp_facts.proofs.Facts.{IsGenuine, IsHere, SheetFacts}
 use Rattle.tp_facts.proofs.RuleTests.{ballot_put}
-use Rattle.tp_facts.proofs.StepCases.{SheetStep, puts_slow, counts_vote, decides_by_votes, counts_answer, puts_recovered, starts_recovery, ProcessStep, does_nothing, bumps_clock, announces, passes_commit_on, changes_sheet, attaches_proposal}
+use Rattle.tp_facts.proofs.StepCases.{SheetStep, puts_slow, counts_vote, decides_by_votes, counts_answer, puts_recovered, starts_recovery}
 use Rattle.tp_facts.proofs.Tables.{kept_here, present_none, present_with}
 use Rattle.tp_ops.specs.declared.command.Command.{Command}
 use Rattle.tp_paxos.specs.Votes.{PutStamp, count_votes, decision, is_put_at}
@@ -26,7 +25,7 @@ use Rattle.tp_quorum.specs.Choice.{present}
 use Rattle.tp_rules.specs.Acts.{Act, Took, Did}
 use Rattle.tp_rules.specs.Addresses.{is_body_at, is_name_of, rank_of}
 use Rattle.tp_rules.specs.Process.{Step, ProcessState, on_body, on_consensus_ack, on_rec_ack, put_recovered, react, recovered, voted, with_room, with_sheet}
-use Rattle.tp_rules.specs.Sheet.{QuorumRule, Sheet, can_answer, can_vote, is_recovered, putting, stamp_decided, stamp_of, with_answer, with_stamp, with_vote}
+use Rattle.tp_rules.specs.Sheet.{QuorumRule, Sheet, can_answer, can_vote, is_recovered, putting, stamp_decided, with_answer, with_vote}
 use Rattle.tp_rules.specs.Tables.{kept_at}
 use Rattle.tp_topology.specs.Shape.{IsShape, recovery_size, slow_size}
 use Rattle.tp_wire.specs.declared.message.Body.{Body}

@@ -1,6 +1,6 @@
 -- Where a step leads to: what holds of the sheet that it changes, and of those that it leaves, holds of each.
 -- Used for what each step keeps (Onward, Counts, AllStanding), and for what a rule makes (Serving).
-use Rattle.std.proofs.Common.{◌≡◌, ℕ, ◌≤◌, Bool, true, false, cond, List, [], Option, Some, None, is_some, subst, ap}
+use Rattle.std.proofs.Common.{◌≡◌, ℕ, true, false, cond, List, [], Option, Some, None, is_some, subst}
 use Rattle.std.proofs.lemmas.Bool.{both_ways, cond_both}
 use Rattle.tp_base.proofs.SameNames.{same_id_is, same_id_refl}
 use Rattle.tp_base.specs.Names.{same_id}

@@ -1,16 +1,16 @@
 -- Stamps that a process keeps are at most a number, where those that it took are, and its proposal is.
-use Rattle.std.proofs.Common.{◌≡◌, ℕ, zero, suc, ◌≤◌, Bool, inl, inr, true, false, cond, List, [], ◌∷◌, Option, Some, None, max, refl, sym, ap, subst, ◌∙◌, arith}
+use Rattle.std.proofs.Common.{◌≡◌, ℕ, zero, suc, ◌≤◌, Bool, List, [], ◌∷◌, Option, Some, None, subst, arith}
 use Rattle.std.specs.Prelude.{nat_lt, replicate}
 use Rattle.std.specs.List.{list_any}
 use Rattle.std.proofs.lemmas.Bool.{cond_both}
-use Rattle.tp_base.specs.Lists.{Each, IsIn}
+use Rattle.tp_base.specs.Lists.{Each}
 use Rattle.tp_base.specs.declared.names.CommandId.{CommandId}
 use Rattle.tp_base.specs.declared.names.Site.{Site}
 use Rattle.tp_choice.specs.Choosing.{recovery_choice, chosen_with, chosen_of_proposals, best_from, better, is_over, greatest_by, member_stamp, tells_slow}
 use Rattle.tp_choice.specs.declared.answer.RecoveryAnswer.{RecoveryAnswer}
 use Rattle.tp_facts.proofs.RuleTests.{stamp_put}
 use Rattle.tp_facts.proofs.StepCases.{SheetStep, submits_and_acknowledges, counts_acknowledgement, decides_fast, puts_slow, accepts, decides_by_votes, learns, counts_answer, puts_recovered, starts_recovery}
-use Rattle.tp_quorum.specs.Choice.{present, greatest}
+use Rattle.tp_quorum.specs.Choice.{greatest}
 use Rattle.tp_rules.proofs.FitStamps.{with_fit, present_fit}
 use Rattle.tp_rules.proofs.Selections.{IfAny}
 use Rattle.tp_rules.specs.Acts.{Act, Took, Did}
@@ -78,24 +78,54 @@ module _ (n : ℕ) where
 
   pub low_kept : {s : QuorumRule} {me : Site} {act : Act} {id : CommandId} {old new : Sheet} {out : List Message} → SheetStep s me act id old new out → IsLowAct act →
       IfAny (λ (q : Proposed). q.stamp ≤ n) new.proposal → IsLowSheet old → IsLowSheet new
-  low_kept {old = old} (submits_and_acknowledges c t e home fresh can) took proposal h = record { accepted_low = h.accepted_low; putting_low = h.putting_low; known_low = h.known_low; answers_low = h.answers_low;
-    acknowledged_low = with_fit (IfAny (λ (t : ℕ). t ≤ n)) old.acknowledged _ (Some t) h.acknowledged_low proposal }
-  low_kept {old = old} (counts_acknowledgement {m} id t e can few) took proposal h = record { accepted_low = h.accepted_low; putting_low = h.putting_low; known_low = h.known_low; answers_low = h.answers_low;
-    acknowledged_low = with_fit (IfAny (λ (t : ℕ). t ≤ n)) old.acknowledged _ (Some t) h.acknowledged_low (took_low m _ e took) }
+  low_kept {old = old} (submits_and_acknowledges c t e home fresh can) took proposal h = record {
+    accepted_low = h.accepted_low;
+    putting_low = h.putting_low;
+    known_low = h.known_low;
+    answers_low = h.answers_low;
+    acknowledged_low = with_fit (IfAny (λ (t : ℕ). t ≤ n)) old.acknowledged _ (Some t) h.acknowledged_low proposal;
+  }
+  low_kept {old = old} (counts_acknowledgement {m} id t e can few) took proposal h = record {
+    accepted_low = h.accepted_low;
+    putting_low = h.putting_low;
+    known_low = h.known_low;
+    answers_low = h.answers_low;
+    acknowledged_low = with_fit (IfAny (λ (t : ℕ). t ≤ n)) old.acknowledged _ (Some t) h.acknowledged_low (took_low m _ e took);
+  }
   low_kept {old = old} (decides_fast {m} id t e can full fast last) took proposal h =
       let table = with_fit (IfAny (λ (t : ℕ). t ≤ n)) old.acknowledged _ (Some t) h.acknowledged_low (took_low m _ e took) in
-      record { accepted_low = h.accepted_low; putting_low = h.putting_low; answers_low = h.answers_low; acknowledged_low = table;
-        known_low = with_fit (IfAny (λ (t : ℕ). t ≤ n)) old.known _ (Some _) h.known_low (greatest_low _ (present_fit (λ (t : ℕ). t ≤ n) _ table)) }
+      record {
+        accepted_low = h.accepted_low;
+        putting_low = h.putting_low;
+        answers_low = h.answers_low;
+        acknowledged_low = table;
+        known_low = with_fit (IfAny (λ (t : ℕ). t ≤ n)) old.known _ (Some _) h.known_low (greatest_low _ (present_fit (λ (t : ℕ). t ≤ n) _ table));
+      }
   low_kept {old = old} (puts_slow {m} id t e can full slow) took proposal h =
       let table = with_fit (IfAny (λ (t : ℕ). t ≤ n)) old.acknowledged _ (Some t) h.acknowledged_low (took_low m _ e took) in
       record { accepted_low = h.accepted_low; known_low = h.known_low; answers_low = h.answers_low; acknowledged_low = table; putting_low = greatest_low _ (present_fit (λ (t : ℕ). t ≤ n) _ table) }
   low_kept (accepts {m} c t b e none le) took proposal h = record { accepted_low = took_low m _ e took; putting_low = h.putting_low; known_low = h.known_low; answers_low = h.answers_low; acknowledged_low = h.acknowledged_low }
-  low_kept (decides_by_votes old id put e none enough last) took proposal h = record { accepted_low = h.accepted_low; putting_low = h.putting_low; answers_low = h.answers_low; acknowledged_low = h.acknowledged_low;
-    known_low = with_fit (IfAny (λ (t : ℕ). t ≤ n)) old.known _ (Some put.stamp) h.known_low h.putting_low }
-  low_kept {old = old} (learns {m} c q t e none last) took proposal h = record { accepted_low = h.accepted_low; putting_low = h.putting_low; answers_low = h.answers_low; acknowledged_low = h.acknowledged_low;
-    known_low = with_fit (IfAny (λ (t : ℕ). t ≤ n)) old.known _ (Some t) h.known_low (took_low m _ e took) }
-  low_kept {old = old} (counts_answer {m} id t made a b e can) took proposal h = record { accepted_low = h.accepted_low; putting_low = h.putting_low; known_low = h.known_low; acknowledged_low = h.acknowledged_low;
-    answers_low = with_fit (IfAny IsLowAnswer) old.answers _ (Some _) h.answers_low (took_low m _ e took) }
+  low_kept (decides_by_votes old id put e none enough last) took proposal h = record {
+    accepted_low = h.accepted_low;
+    putting_low = h.putting_low;
+    answers_low = h.answers_low;
+    acknowledged_low = h.acknowledged_low;
+    known_low = with_fit (IfAny (λ (t : ℕ). t ≤ n)) old.known _ (Some put.stamp) h.known_low h.putting_low;
+  }
+  low_kept {old = old} (learns {m} c q t e none last) took proposal h = record {
+    accepted_low = h.accepted_low;
+    putting_low = h.putting_low;
+    answers_low = h.answers_low;
+    acknowledged_low = h.acknowledged_low;
+    known_low = with_fit (IfAny (λ (t : ℕ). t ≤ n)) old.known _ (Some t) h.known_low (took_low m _ e took);
+  }
+  low_kept {old = old} (counts_answer {m} id t made a b e can) took proposal h = record {
+    accepted_low = h.accepted_low;
+    putting_low = h.putting_low;
+    known_low = h.known_low;
+    acknowledged_low = h.acknowledged_low;
+    answers_low = with_fit (IfAny IsLowAnswer) old.answers _ (Some _) h.answers_low (took_low m _ e took);
+  }
   low_kept {s = s} {old = old} (puts_recovered {m} id t made a b c e can is enough) took proposal h =
       let table = with_fit (IfAny IsLowAnswer) old.answers _ (Some _) h.answers_low (took_low m _ e took) in
       record { accepted_low = h.accepted_low; known_low = h.known_low; acknowledged_low = h.acknowledged_low; answers_low = table; putting_low = choice_low (s.in_quorum c) c.home.0 _ (present_fit IsLowAnswer _ table) }

@@ -36,14 +36,14 @@ present_count (None ∷ table) = omega (
   present_count table,
   count_front (λ j. is_some (kept_at (None ∷ table) j)) (length table),
   count_same (λ j. is_some (kept_at (None ∷ table) (suc j))) (λ j. is_some (kept_at table j)) (length table)
-  (shifted None table),
+      (shifted None table),
 )
 present_count (Some x ∷ table) = omega (
   arith,
   present_count table,
   count_front (λ j. is_some (kept_at (Some x ∷ table) j)) (length table),
   count_same (λ j. is_some (kept_at (Some x ∷ table) (suc j))) (λ j. is_some (kept_at table j)) (length table)
-  (shifted (Some x) table),
+      (shifted (Some x) table),
 )
 
 -- where a place is kept for each rank that passes a test, as many are kept as pass
@@ -73,16 +73,16 @@ find_rank q zero = inr (λ k range. absurd (omega (arith, range)))
 find_rank q (suc n) = elim (cases_Bool (q (suc n))) [
   | inl passes ↦ inl (record { rank = suc n; in_range = (omega arith, omega arith); is = passes })
   | inr no_more ↦ elim (find_rank q n) [
-      | inl found ↦ inl (record {
-          rank = found.rank;
-          in_range = (found.in_range.0, omega (arith, found.in_range.1));
-          is = found.is;
-        })
-      | inr none ↦ inr (λ k range. elim (cases_eq k (suc n)) [
-          | inl same ↦ subst (λ (j : ℕ). q j ≡ false) (sym same) no_more
-          | inr apart ↦ none k (range.0, omega (arith, range.1))
-        ])
-    ]
+    | inl found ↦ inl (record {
+      rank = found.rank;
+      in_range = (found.in_range.0, omega (arith, found.in_range.1));
+      is = found.is;
+    })
+    | inr none ↦ inr (λ k range. elim (cases_eq k (suc n)) [
+      | inl same ↦ subst (λ (j : ℕ). q j ≡ false) (sym same) no_more
+      | inr apart ↦ none k (range.0, omega (arith, range.1))
+    ])
+  ]
 ]
 
 -- a rank at which a number is greatest
@@ -96,20 +96,20 @@ top f zero = record {
   rank = 1;
   in_range = (omega arith, omega arith);
   most = λ j range.
-  let one : j ≡ 1 = omega (arith, range) in
-  subst (λ (k : ℕ). f k ≤ f 1) (sym one) (omega arith);
+      let one : j ≡ 1 = omega (arith, range) in
+      subst (λ (k : ℕ). f k ≤ f 1) (sym one) (omega arith);
 }
 top f (suc n) = let below = top f n in elim (cases_lt (f below.rank) (f (suc (suc n)))) [
   | inl more ↦ record {
-      rank = suc (suc n);
-      in_range = (omega arith, omega arith);
-      most = λ j range. last (f (suc (suc n))) j range (λ low. omega (arith, below.most j low, more)) (omega arith);
-    }
+    rank = suc (suc n);
+    in_range = (omega arith, omega arith);
+    most = λ j range. last (f (suc (suc n))) j range (λ low. omega (arith, below.most j low, more)) (omega arith);
+  }
   | inr less ↦ record {
-      rank = below.rank;
-      in_range = (below.in_range.0, omega (arith, below.in_range.1));
-      most = λ j range. last (f below.rank) j range (λ low. below.most j low) (omega (arith, less));
-    }
+    rank = below.rank;
+    in_range = (below.in_range.0, omega (arith, below.in_range.1));
+    most = λ j range. last (f below.rank) j range (λ low. below.most j low) (omega (arith, less));
+  }
 ]
   where
     last : (m j : ℕ) → IsFrom 1 (suc (suc n)) j → (IsFrom 1 (suc n) j → f j ≤ m) → f (suc (suc n)) ≤ m → f j ≤ m
@@ -199,9 +199,9 @@ module _ (s : QuorumRule) (c : Command) (sheet : ℕ → Sheet) (shape : IsShape
       ballots_low k range = elim (cases_eq (sheet k).ballot 0) [
         | inl none ↦ omega arith
         | inr joined ↦ elim (h.source k range (omega arith)) [
-            | inl by ↦ omega (arith, by.low, puts_low by.by by.in_range)
-            | inr by ↦ omega (arith, by.low, t.most by.by by.in_range)
-          ]
+          | inl by ↦ omega (arith, by.low, puts_low by.by by.in_range)
+          | inr by ↦ omega (arith, by.low, t.most by.by by.in_range)
+        ]
       ]
 
       put_at : (j : ℕ) → IsFrom 1 r j → (sheet t.rank).tried ≤ ballot_put (sheet j).put → ⊥
@@ -222,9 +222,9 @@ module _ (s : QuorumRule) (c : Command) (sheet : ℕ → Sheet) (shape : IsShape
           owned j range same = elim (h.tried j range) [
             | inl none ↦ absurd (omega (arith, some))
             | inr mine ↦ elim (h.tried t.rank t.in_range) [
-                | inl none ↦ absurd (omega (arith, some))
-                | inr its ↦ sym mine.1 ∙ ap (owner s.shape) same ∙ its.1
-              ]
+              | inl none ↦ absurd (omega (arith, some))
+              | inr its ↦ sym mine.1 ∙ ap (owner s.shape) same ∙ its.1
+            ]
           ]
 
           answered : (k : ℕ) → IsFrom 1 r k → is_some (kept_at (sheet t.rank).answers k) ≡ true
@@ -268,12 +268,12 @@ module _ (s : QuorumRule) (c : Command) (sheet : ℕ → Sheet) (shape : IsShape
       low_ballot k range = elim (cases_eq (sheet k).ballot 0) [
         | inl zero_ballot ↦ omega arith
         | inr joined ↦ elim (h.source k range (omega arith)) [
-            | inl by ↦
-                let at_home : by.by ≡ c.home.0 = h.first by.by by.in_range (omega (arith, by.low))
-                (omega (arith, h.put by.by by.in_range, none by.by by.in_range)) in
-                subst (λ (j : ℕ). (sheet k).ballot ≤ ballot_put (sheet j).put) at_home by.low
-            | inr by ↦ absurd (omega (arith, by.low, none by.by by.in_range))
-          ]
+          | inl by ↦
+              let at_home : by.by ≡ c.home.0 = h.first by.by by.in_range (omega (arith, by.low))
+              (omega (arith, h.put by.by by.in_range, none by.by by.in_range)) in
+              subst (λ (j : ℕ). (sheet k).ballot ≤ ballot_put (sheet j).put) at_home by.low
+          | inr by ↦ absurd (omega (arith, by.low, none by.by by.in_range))
+        ]
       ]
 
   pub not_stuck : ⊥

@@ -1,6 +1,6 @@
 -- Each step only adds to what a process keeps of a command.
 -- Used for what the messages that it took leave behind (AllServed).
-use Rattle.std.proofs.Common.{◌≡◌, ◌⊎◌, ℕ, ◌<◌, ◌≤◌, inl, inr, true, false, List, Option, Some, None, is_some, max, cond, refl, sym, ap, ◌∙◌, subst, arith}
+use Rattle.std.proofs.Common.{◌≡◌, ◌⊎◌, ℕ, ◌<◌, ◌≤◌, inl, inr, true, false, List, Option, Some, None, is_some, refl, sym, ap, arith}
 use Rattle.std.specs.Prelude.{is_none}
 use Rattle.tp_base.specs.declared.names.CommandId.{CommandId}
 use Rattle.tp_base.specs.declared.names.Site.{Site}

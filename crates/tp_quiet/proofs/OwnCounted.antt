@@ -1,8 +1,8 @@
 -- A home that proposed a command counts its own acknowledgement, or needs none. Each act keeps this.
 -- Used for the fast quorum of a command in a run in which nothing is pending.
-use Rattle.std.proofs.Common.{◌≡◌, ◌⊎◌, ℕ, ◌<◌, ◌≤◌, Bool, inl, inr, true, false, cond, List, [], ◌∷◌, ◌++◌, length, Option, Some, None, is_some, refl, sym, ap, subst, ◌∙◌, arith}
+use Rattle.std.proofs.Common.{◌≡◌, ◌⊎◌, ℕ, ◌<◌, ◌≤◌, inl, inr, true, false, List, [], ◌∷◌, length, Option, Some, None, is_some, refl, sym, ap, subst, ◌∙◌, arith}
 use Rattle.std.specs.Prelude.{◌&&◌, ◌==◌, is_none, nat_lt}
-use Rattle.std.proofs.lemmas.Bool.{and_from, and_parts, both_ways, cases_Bool, cond_both, eq-eqb, eqb-true, lt-ltb}
+use Rattle.std.proofs.lemmas.Bool.{and_from, and_parts, both_ways, cases_Bool, cond_both, eq-eqb, lt-ltb}
 use Rattle.tp_base.proofs.Options.{none_of}
 use Rattle.tp_base.proofs.SameNames.{same_id_is}
 use Rattle.tp_base.specs.Lists.{Each}
@@ -13,7 +13,7 @@ use Rattle.tp_base.specs.declared.names.Made.TheVariants.{Proposal}
 use Rattle.tp_base.specs.declared.names.Site.{Site}
 use Rattle.tp_facts.proofs.AcceptorKept.{carried}
 use Rattle.tp_facts.proofs.ActSteps.{step_of_act}
-use Rattle.tp_facts.proofs.Facts.{IsGenuine, IsHere, KeepsCommand, ProcessFacts, SheetFacts, sent_by}
+use Rattle.tp_facts.proofs.Facts.{IsGenuine, IsHere, KeepsCommand, ProcessFacts, sent_by}
 use Rattle.tp_facts.proofs.Invariant.{facts_hold}
 use Rattle.tp_facts.proofs.RuleTests.{ballot_put}
 use Rattle.tp_facts.proofs.StepCases.{SheetStep, submits, submits_and_acknowledges, proposes, proposes_and_answers_recovery}

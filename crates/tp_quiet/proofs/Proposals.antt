@@ -1,9 +1,9 @@
 -- A proposal of a home was sent to the other members of the fast quorum and counted as its own acknowledgement, one of a
 -- member answers the home's, and one made by a recovery joined its ballot. Each step keeps this.
 -- Used for each process of a run in which nothing is pending.
-use Rattle.std.proofs.Common.{◌≡◌, ◌≢◌, ◌⊎◌, ℕ, ◌<◌, ◌≤◌, Bool, inl, inr, true, false, cond, List, [], ◌∷◌, ◌++◌, length, map, Option, Some, None, is_some, refl, sym, ap, subst, ◌∙◌, arith}
-use Rattle.std.specs.Prelude.{◌&&◌, ◌==◌, filter, is_none, not}
-use Rattle.std.proofs.lemmas.Bool.{and_from, and_parts, cases_Bool, cond_both, cond-true, eq-eqb, eqb-true, lt-ltb, not_from_false}
+use Rattle.std.proofs.Common.{◌≡◌, ◌≢◌, ◌⊎◌, ℕ, ◌<◌, ◌≤◌, Bool, inl, inr, true, false, cond, List, ◌∷◌, ◌++◌, Option, Some, None, refl, sym, subst, arith}
+use Rattle.std.specs.Prelude.{◌==◌, filter, not}
+use Rattle.std.proofs.lemmas.Bool.{cond-true, eqb-true}
 use Rattle.tp_base.proofs.Members.{in_left, in_right, map_in}
 use Rattle.tp_base.specs.Limits.{IsFrom}
 use Rattle.tp_base.specs.Lists.{IsIn}
@@ -19,7 +19,7 @@ use Rattle.tp_ops.specs.declared.command.Command.{Command}
 use Rattle.tp_rules.proofs.SendsOfProcess.{stamp}
 use Rattle.tp_rules.proofs.Tallies.{in_filter}
 use Rattle.tp_rules.proofs.UpTo.{in_up_to}
-use Rattle.tp_rules.specs.Acts.{Act, Took, Did}
+use Rattle.tp_rules.specs.Acts.{Act, Took}
 use Rattle.tp_rules.specs.Addresses.{message, site}
 use Rattle.tp_rules.specs.Process.{proposals}
 use Rattle.tp_rules.specs.Sheet.{Proposed, QuorumRule, Sheet}
@@ -78,14 +78,14 @@ module _ (s : QuorumRule) (me : Site) (of : CommandId → Command) where
   proposal_to_members c t more j range other member = (
     t,
     in_left (proposals s me c t) more _
-    (subst (λ (body : Body). IsIn (message (Process me) (Process (site me.partition.0 j)) body) (proposals s me c t))
-    (cond-true (s.in_quorum c j) (MPropose c (stamp t)) (MPayload c) member)
-    (map_in
-    (λ (rank : ℕ). message (Process me) (Process (site me.partition.0 rank))
-    (cond (s.in_quorum c rank) (MPropose c (stamp t)) (MPayload c)))
-    (filter (λ rank. not (rank == me.rank.0)) (up_to s.shape.replicas)) j
-    (in_filter (λ rank. not (rank == me.rank.0)) (up_to s.shape.replicas) j
-    (in_up_to s.shape.replicas j range.0 range.1) (not_same j other)))),
+        (subst (λ (body : Body). IsIn (message (Process me) (Process (site me.partition.0 j)) body) (proposals s me c t))
+        (cond-true (s.in_quorum c j) (MPropose c (stamp t)) (MPayload c) member)
+        (map_in
+        (λ (rank : ℕ). message (Process me) (Process (site me.partition.0 rank))
+        (cond (s.in_quorum c rank) (MPropose c (stamp t)) (MPayload c)))
+        (filter (λ rank. not (rank == me.rank.0)) (up_to s.shape.replicas)) j
+        (in_filter (λ rank. not (rank == me.rank.0)) (up_to s.shape.replicas) j
+        (in_up_to s.shape.replicas j range.0 range.1) (not_same j other)))),
   )
     where
       not_same : (j : ℕ) → j ≢ me.rank.0 → not (j == me.rank.0) ≡ true
@@ -98,13 +98,12 @@ module _ (s : QuorumRule) (me : Site) (of : CommandId → Command) where
   submitted_to_members : (c d : Command) (t : ℕ) (bumped sent : List Message) → c ≡ d
       → ToMembers ((proposals s me c t ++ bumped) ++ sent) d
   submitted_to_members c d t bumped sent same j range other member =
-      let x = proposal_to_members c t bumped j range other (subst (λ (e : Command). s.in_quorum e j ≡ true) (sym same) member) in
-      (
+      let x = proposal_to_members c t bumped j range other (subst (λ (e : Command). s.in_quorum e j ≡ true) (sym same) member) in (
         x.0,
         in_left (proposals s me c t ++ bumped) sent _
-        (subst
-        (λ (e : Command). IsIn (message (Process me) (Process (site me.partition.0 j)) (MPropose e (stamp x.0)))
-        (proposals s me c t ++ bumped)) same x.1),
+            (subst
+            (λ (e : Command). IsIn (message (Process me) (Process (site me.partition.0 j)) (MPropose e (stamp x.0)))
+            (proposals s me c t ++ bumped)) same x.1),
       )
 
   acknowledges_home : (m : Message) (acts : List Act) (sent rest : List Message) (c : Command) (floor t : ℕ)

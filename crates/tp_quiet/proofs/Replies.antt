@@ -1,14 +1,12 @@
 -- Each acknowledgement, vote and answer that a process sends goes to who asked for it, and the question was taken. Each
 -- question of a recovery names a ballot of the sender's own, which it tried.
 -- Used for each message of a run: when it is taken, it is to what was asked.
-use Rattle.std.proofs.Common.{◌≡◌, ◌⊎◌, ℕ, ◌<◌, ◌≤◌, inl, inr, true, List, [], ◌∷◌, ◌++◌, Option, Some, None, is_some, refl, sym, ap, subst, ◌∙◌, arith}
-use Rattle.std.proofs.lemmas.Bool.{cond_both}
+use Rattle.std.proofs.Common.{◌≡◌, ℕ, inl, inr, List, [], ◌∷◌, Option, Some, None, refl}
 use Rattle.tp_base.proofs.Each.{each_append, each_weaker}
 use Rattle.tp_base.specs.Lists.{Each, IsIn}
 use Rattle.tp_base.specs.declared.names.ActorName.{ActorName}
-use Rattle.tp_base.specs.declared.names.ActorName.TheVariants.{Process, Executor}
+use Rattle.tp_base.specs.declared.names.ActorName.TheVariants.{Process}
 use Rattle.tp_base.specs.declared.names.CommandId.{CommandId}
-use Rattle.tp_base.specs.declared.names.Made.{Made}
 use Rattle.tp_base.specs.declared.names.Site.{Site}
 use Rattle.tp_base.specs.declared.names.Stamp.{Stamp}
 use Rattle.tp_facts.proofs.ActSteps.{step_of_act}
@@ -16,12 +14,12 @@ use Rattle.tp_facts.proofs.Facts.{sent_by}
 use Rattle.tp_facts.proofs.StepCases.{IsFinal, untold, final, chosen_stamp, with_recovery_answer, SheetStep, submits, submits_and_acknowledges, proposes, decides_fast, puts_slow, accepts, decides_by_votes, learns, proposes_and_answers_recovery, answers_recovery, puts_recovered, starts_recovery, ProcessStep, does_nothing, bumps_clock, announces, passes_commit_on, changes_sheet, attaches_proposal}
 use Rattle.tp_ops.specs.declared.command.Command.{Command}
 use Rattle.tp_rules.proofs.SendsOfProcess.{bumps_send, commit_messages_send, each_to, proposals_send, put_to_vote_sends, stamp}
-use Rattle.tp_rules.specs.Acts.{Act, Took, Did}
-use Rattle.tp_rules.specs.Addresses.{executors_of, message, processes_of}
-use Rattle.tp_rules.specs.Process.{ProcessState, Step, announced, asked, bumps, commit_messages, commit_reply, react, state_after, untold as untold_pairs}
+use Rattle.tp_rules.specs.Acts.{Act, Took}
+use Rattle.tp_rules.specs.Addresses.{executors_of, processes_of}
+use Rattle.tp_rules.specs.Process.{ProcessState, Step, announced, asked, bumps, commit_messages, commit_reply, state_after, untold as untold_pairs}
 use Rattle.tp_rules.specs.Sheet.{QuorumRule, Sheet}
 use Rattle.tp_wire.specs.declared.message.Body.{Body}
-use Rattle.tp_wire.specs.declared.message.Body.TheVariants.{MBump, MCommit, MCommitted, MConsensus, MConsensusAck, MPayload, MPromises, MPropose, MProposeAck, MRec, MRecAck}
+use Rattle.tp_wire.specs.declared.message.Body.TheVariants.{MConsensus, MConsensusAck, MPromises, MPropose, MProposeAck, MRec, MRecAck}
 use Rattle.tp_wire.specs.declared.message.Message.{Message}
 
 -- a message was taken from an actor

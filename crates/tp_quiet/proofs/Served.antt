@@ -1,6 +1,6 @@
 -- What a process keeps of a command once it took a message about it, and that each later step keeps that.
 -- Used for all messages of a run in which nothing is pending.
-use Rattle.std.proofs.Common.{◌≡◌, ◌⊎◌, ℕ, ◌<◌, ◌≤◌, inl, inr, true, false, List, Option, Some, None, is_some, refl, sym, ap, ◌∙◌, subst, arith}
+use Rattle.std.proofs.Common.{◌≡◌, ◌⊎◌, ℕ, ◌<◌, ◌≤◌, inl, inr, true, false, List, Some, is_some, ◌∙◌, arith}
 use Rattle.std.specs.Prelude.{is_none}
 use Rattle.tp_base.specs.Lists.{IsIn}
 use Rattle.tp_base.specs.declared.names.ActorName.{ActorName}

@@ -1,18 +1,15 @@
 -- A process that takes a message about a command has what it asks for, whether its rule changes anything or not.
 -- Used for all messages of a run in which nothing is pending (AllServed).
-use Rattle.std.proofs.Common.{◌≡◌, ◌⊎◌, ℕ, ◌<◌, ◌≤◌, Bool, inl, inr, true, false, cond, List, [], ◌∷◌, ◌++◌, length, Option, Some, None, is_some, refl, sym, ap, ◌∙◌, subst, arith}
-use Rattle.std.specs.Prelude.{◌&&◌, ◌==◌, is_none, nat_le, nat_lt, not}
-use Rattle.std.proofs.lemmas.Bool.{and_from, and_parts, both_ways, cases_Bool, cond_both, cond-true, eq-eqb, eqb-false, eqb-true, leb-false, leb-true, lt-ltb, ltb-false, ltb-true, not-true}
-use Rattle.tp_base.proofs.Options.{none_of}
-use Rattle.tp_base.proofs.SameNames.{same_id_refl}
+use Rattle.std.proofs.Common.{◌≡◌, ◌⊎◌, ℕ, ◌<◌, ◌≤◌, Bool, inl, inr, true, false, cond, [], length, Option, Some, None, is_some, refl, sym, ap, subst, arith}
+use Rattle.std.specs.Prelude.{◌&&◌, ◌==◌, is_none, nat_lt, not}
+use Rattle.std.proofs.lemmas.Bool.{and_from, and_parts, both_ways, cases_Bool, cond_both, eq-eqb, eqb-false, eqb-true, leb-false, lt-ltb, ltb-false}
 use Rattle.tp_base.specs.Limits.{STAMP_LIMIT}
-use Rattle.tp_base.specs.Lists.{IsIn}
 use Rattle.tp_base.specs.Names.{same_id, same_name}
 use Rattle.tp_base.specs.declared.names.ActorName.{ActorName}
 use Rattle.tp_base.specs.declared.names.ActorName.TheVariants.{Process}
 use Rattle.tp_base.specs.declared.names.CommandId.{CommandId}
 use Rattle.tp_base.specs.declared.names.Made.{Made}
-use Rattle.tp_base.specs.declared.names.Made.TheVariants.{Proposal, Recovery}
+use Rattle.tp_base.specs.declared.names.Made.TheVariants.{Proposal}
 use Rattle.tp_base.specs.declared.names.Site.{Site}
 use Rattle.tp_choice.specs.Choosing.{recovery_choice}
 use Rattle.tp_choice.specs.declared.answer.RecoveryAnswer.{RecoveryAnswer}
@@ -21,15 +18,15 @@ use Rattle.tp_facts.proofs.SamePartition.{IsPeer}
 use Rattle.tp_facts.proofs.Tables.{kept_here}
 use Rattle.tp_ops.specs.Parts.{is_accessed}
 use Rattle.tp_ops.specs.declared.command.Command.{Command}
-use Rattle.tp_paxos.specs.Votes.{PutStamp, decision, is_put_at, voted_too}
+use Rattle.tp_paxos.specs.Votes.{PutStamp, is_put_at}
 use Rattle.tp_quorum.specs.Choice.{fast_choice, present}
 use Rattle.tp_quorum.specs.declared.choice.FastChoice.{FastChoice}
 use Rattle.tp_quorum.specs.declared.choice.FastChoice.TheVariants.{Fast, Slow}
-use Rattle.tp_rules.specs.Addresses.{is_between, is_body_at, is_command_at, is_name_of, message, rank_of}
+use Rattle.tp_rules.specs.Addresses.{is_between, is_body_at, is_command_at, is_name_of, rank_of}
 use Rattle.tp_rules.proofs.Fit.{between_is}
 use Rattle.tp_rules.specs.Acts.{Took}
-use Rattle.tp_rules.specs.Process.{Step, ProcessState, accept_and_vote, answer_recovery, answer_with_old_proposal, conclude_fast_path, decided, follow_choice, learned, next_stamp, on_body, on_commit, on_consensus, on_consensus_ack, on_propose, on_propose_ack, on_rec, on_rec_ack, on_rec_by_stamp, on_submit, propose_and_acknowledge, propose_and_answer, put_recovered, react, recovered, submitted, voted, with_room, with_sheet}
-use Rattle.tp_rules.specs.Sheet.{Proposed, QuorumRule, Sheet, acknowledged, acknowledged_own, can_accept, can_acknowledge, can_answer, can_vote, final_stamp, is_fresh, is_full, is_made_by_proposal, is_member, is_recovered, is_untouched, putting, stamp_decided, stamp_of, with_answer, with_command, with_proposal, with_stamp, with_vote}
+use Rattle.tp_rules.specs.Process.{Step, ProcessState, accept_and_vote, answer_recovery, answer_with_old_proposal, conclude_fast_path, follow_choice, learned, next_stamp, on_body, on_commit, on_consensus, on_consensus_ack, on_propose, on_propose_ack, on_rec_ack, on_rec_by_stamp, on_submit, propose_and_acknowledge, propose_and_answer, put_recovered, react, recovered, submitted, voted, with_room, with_sheet}
+use Rattle.tp_rules.specs.Sheet.{Proposed, QuorumRule, Sheet, acknowledged, acknowledged_own, can_accept, can_acknowledge, can_answer, can_vote, is_fresh, is_full, is_made_by_proposal, is_member, is_recovered, is_untouched, putting, stamp_decided, stamp_of, with_answer, with_command, with_proposal, with_stamp, with_vote}
 use Rattle.tp_rules.specs.Tables.{kept_at, nth}
 use Rattle.tp_topology.specs.Shape.{fast_size}
 use Rattle.tp_wire.specs.declared.message.Body.{Body}

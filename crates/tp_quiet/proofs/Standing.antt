@@ -1,8 +1,7 @@
 -- What a process keeps of a command is not left half done: what it puts and asks was sent to all ranks, a full fast quorum
 -- was heeded, and each ballot that it joined was put or asked for. Each step keeps this.
 -- Used for each process of a run in which nothing is pending.
-use Rattle.std.proofs.Common.{◌≡◌, ◌⊎◌, ℕ, zero, suc, ◌<◌, ◌≤◌, inl, inr, true, false, List, [], ◌∷◌, ◌++◌, length, Option, Some, None, is_some, refl, sym, ap, subst, ◌∙◌, arith}
-use Rattle.std.specs.Prelude.{is_none}
+use Rattle.std.proofs.Common.{◌≡◌, ◌⊎◌, ℕ, ◌<◌, ◌≤◌, inl, inr, true, false, List, [], ◌∷◌, ◌++◌, length, Option, Some, None, is_some, refl, sym, ap, subst, ◌∙◌, arith}
 use Rattle.std.proofs.lemmas.Bool.{eqb-false}
 use Rattle.tp_base.proofs.Members.{in_left, in_right, map_in}
 use Rattle.tp_base.specs.Limits.{IsFrom}
@@ -14,10 +13,9 @@ use Rattle.tp_base.specs.declared.names.Made.{Made}
 use Rattle.tp_base.specs.declared.names.Site.{Site}
 use Rattle.tp_base.specs.declared.names.Stamp.{Stamp}
 use Rattle.tp_facts.proofs.AcceptorKept.{carried}
-use Rattle.tp_facts.proofs.Facts.{IsCommandOf, IsGenuine, IsHere, KeepsCommand, SheetFacts, WasTaken}
+use Rattle.tp_facts.proofs.Facts.{IsGenuine, IsHere, KeepsCommand, WasTaken}
 use Rattle.tp_facts.proofs.Growing.{taken_more}
-use Rattle.tp_facts.proofs.RuleTests.{ballot_put}
-use Rattle.tp_facts.proofs.StepCases.{SheetStep, submits, submits_and_acknowledges, proposes, keeps_payload, counts_acknowledgement, decides_fast, puts_slow, accepts, counts_vote, decides_by_votes, knows_already, learns, proposes_and_answers_recovery, answers_recovery, counts_answer, puts_recovered, starts_recovery}
+use Rattle.tp_facts.proofs.StepCases.{SheetStep, submits, submits_and_acknowledges, proposes, keeps_payload, counts_acknowledgement, decides_fast, puts_slow, accepts, counts_vote, decides_by_votes, knows_already, learns, proposes_and_answers_recovery, answers_recovery, puts_recovered, starts_recovery}
 use Rattle.tp_facts.proofs.Tables.{kept_here, present_with}
 use Rattle.tp_ops.specs.declared.command.Command.{Command}
 use Rattle.tp_paxos.specs.Votes.{PutStamp}
@@ -25,7 +23,7 @@ use Rattle.tp_quorum.specs.Choice.{present}
 use Rattle.tp_rules.proofs.Selections.{IfAny}
 use Rattle.tp_rules.proofs.SendsOfProcess.{stamp}
 use Rattle.tp_rules.proofs.UpTo.{in_up_to}
-use Rattle.tp_rules.specs.Acts.{Act, Took, Did}
+use Rattle.tp_rules.specs.Acts.{Act, Took}
 use Rattle.tp_rules.specs.Addresses.{message, processes_of, rank_of, site, to_each}
 use Rattle.tp_rules.specs.Process.{asked, put_to_vote}
 use Rattle.tp_rules.specs.Sheet.{QuorumRule, Sheet, is_made_by_proposal, is_member}
@@ -35,7 +33,7 @@ use Rattle.tp_topology.specs.Shape.{fast_size}
 use Rattle.tp_wire.specs.declared.message.Body.{Body}
 use Rattle.tp_wire.specs.declared.message.Body.TheVariants.{MConsensus, MRec, MRecAck}
 use Rattle.tp_wire.specs.declared.message.Message.{Message}
-use Rattle.tp_quiet.proofs.Served.{Knows, Onward}
+use Rattle.tp_quiet.proofs.Served.{Onward}
 use Rattle.tp_quiet.proofs.Serving.{IsHeeded}
 
 -- a recovery's question was taken, and answered

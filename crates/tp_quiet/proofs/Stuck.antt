@@ -1,7 +1,7 @@
 -- Where each message was taken, admitted and in time, and a full fast quorum acknowledged, some process of a partition knows
 -- the stamp of a command.
 -- Used for each command and each of its partitions in a run in which nothing is pending.
-use Rattle.std.proofs.Common.{◌≡◌, ◌≢◌, ◌⊎◌, ℕ, ◌<◌, ◌≤◌, Bool, inl, inr, true, false, List, [], ◌∷◌, ◌++◌, length, max, Option, Some, None, is_some, refl, sym, ap, subst, ◌∙◌, arith}
+use Rattle.std.proofs.Common.{◌≡◌, ◌≢◌, ◌⊎◌, ℕ, ◌<◌, ◌≤◌, inl, inr, true, false, List, [], ◌∷◌, length, Option, Some, None, is_some, refl, sym, ap, subst, ◌∙◌, arith}
 use Rattle.std.specs.Prelude.{is_none}
 use Rattle.std.proofs.lemmas.Bool.{and_from, both_ways, cases_eq, cases_lt}
 use Rattle.tp_base.proofs.Each.{each_in}
@@ -30,11 +30,11 @@ use Rattle.tp_rules.proofs.Fit.{is_between-from, site_is}
 use Rattle.tp_rules.proofs.FitChoices.{ring_has_fast_size}
 use Rattle.tp_rules.proofs.Selections.{IfAny}
 use Rattle.tp_rules.proofs.SendsOfProcess.{stamp}
-use Rattle.tp_rules.specs.Acts.{Act, Took, Did}
+use Rattle.tp_rules.specs.Acts.{Act, Took}
 use Rattle.tp_rules.specs.Addresses.{is_between, is_site_of, message, rank_of, site}
 use Rattle.tp_rules.specs.Journal.{IsSent, act_of, acts}
 use Rattle.tp_rules.specs.Process.{state_after}
-use Rattle.tp_rules.specs.Runs.{IsFreeHistory, outputs_by, outputs_in}
+use Rattle.tp_rules.specs.Runs.{IsFreeHistory, outputs_by}
 use Rattle.tp_rules.specs.Sheet.{Proposed, QuorumRule, Sheet, is_made_by_proposal, is_proposal, ring_rule, stamp_of}
 use Rattle.tp_rules.specs.Tables.{kept_at, nth}
 use Rattle.tp_rules.specs.declared.event.Entry.{Entry}
@@ -48,10 +48,10 @@ use Rattle.tp_quiet.proofs.AllServed.{AreTakenWell, all_served}
 use Rattle.tp_quiet.proofs.AllStanding.{IsStanding, all_standing}
 use Rattle.tp_quiet.proofs.Counts.{IsActWith}
 use Rattle.tp_quiet.proofs.Gains.{votes_put}
-use Rattle.tp_quiet.proofs.NotStuck.{AskedBy, Found, IsStuck, PutBy, find_rank, not_stuck}
+use Rattle.tp_quiet.proofs.NotStuck.{AskedBy, IsStuck, PutBy, find_rank, not_stuck}
 use Rattle.tp_quiet.proofs.OwnCounted.{IsToAnother, all_own}
 use Rattle.tp_quiet.proofs.Proposals.{HasAcknowledged, HasReason, IsReasoned}
-use Rattle.tp_quiet.proofs.Served.{IsAcknowledged, IsAnswerCounted, IsJoined, IsServed, IsVoteCounted, IsVoted, Knows}
+use Rattle.tp_quiet.proofs.Served.{IsAcknowledged, IsServed, Knows}
 use Rattle.tp_quiet.proofs.Standing.{HasAnswered, IsSpread}
 
 -- what a process sent by its acts was sent
@@ -229,7 +229,6 @@ module _ (script : Script) (older : List Entry) (run : IsTakenIn script older) (
             counted from.rank from.in_range
             (but_known from.rank from.in_range (served k from.rank from.in_range
             (MRecAck c.id h.stamp h.made h.accepted (sheet k).ballot) back_c))
-
           where
             counted : (j : ℕ) → IsRank j
                 → ((sheet k).ballot < (sheet j).tried) ⊎ (((sheet k).ballot ≤ ballot_put (sheet j).put)
@@ -261,9 +260,9 @@ module _ (script : Script) (older : List Entry) (run : IsTakenIn script older) (
         elim (but_known k range_k (served j k range_k (MConsensus c (stamp x.put.stamp) x.put.ballot) sent_c)) [
           | inl beyond ↦ inl (omega (arith, at, beyond))
           | inr vote ↦ elim (but_known j range_j (served k j range_j (MConsensusAck c.id x.put.ballot) vote)) [
-              | inl above ↦ absurd (omega (arith, at, above))
-              | inr counted ↦ inr counted.1
-            ]
+            | inl above ↦ absurd (omega (arith, at, above))
+            | inr counted ↦ inr counted.1
+          ]
         ]
 
   -- the command was submitted to the process of its home
@@ -396,14 +395,14 @@ module _ (script : Script) (older : List Entry) (run : IsTakenIn script older) (
     acknowledged = elim (cases_lt 0 (sheet c.home.0).ballot) [
       | inl joined ↦ inl joined
       | inr unjoined ↦ elim (cases_lt 0 (ballot_put (sheet c.home.0).put)) [
-          | inl put ↦ inr (inl put)
-          | inr unput ↦ inr (inr (λ j range member.
-              elim (all_counted (λ joined. omega (arith, joined, unjoined)) j range member) [
-                | inl joined ↦ absurd (omega (arith, joined, unjoined))
-                | inr (inl put) ↦ absurd (omega (arith, put, unput))
-                | inr (inr rest) ↦ rest
-              ]))
-        ]
+        | inl put ↦ inr (inl put)
+        | inr unput ↦ inr (inr (λ j range member.
+            elim (all_counted (λ joined. omega (arith, joined, unjoined)) j range member) [
+              | inl joined ↦ absurd (omega (arith, joined, unjoined))
+              | inr (inl put) ↦ absurd (omega (arith, put, unput))
+              | inr (inr rest) ↦ rest
+            ]))
+      ]
     ]
 
     stuck : IsStuck rule sheet c
