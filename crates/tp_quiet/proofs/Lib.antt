@@ -16,3 +16,4 @@ pub mod Served
 pub mod Serving
 pub mod Standing
 pub mod Stuck
+pub mod Questions

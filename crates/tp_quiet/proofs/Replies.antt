@@ -1,5 +1,4 @@
--- Each acknowledgement, vote and answer that a process sends goes to who asked for it, and the question was taken. Each
--- question of a recovery names a ballot of the sender's own, which it tried.
+-- Each acknowledgement, vote and answer that a process sends goes to who asked for it, and the question was taken.
 -- Used for each message of a run: when it is taken, it is to what was asked.
 use Rattle.std.proofs.Common.{◌≡◌, ℕ, inl, inr, List, [], ◌∷◌, Option, Some, None, refl}
 use Rattle.tp_base.proofs.Each.{each_append, each_weaker}

@@ -1,7 +1,7 @@
 -- What a process keeps of a command is not left half done: what it puts and asks was sent to all ranks, a full fast quorum
 -- was heeded, and each ballot that it joined was put or asked for. Each step keeps this.
 -- Used for each process of a run in which nothing is pending.
-use Rattle.std.proofs.Common.{◌≡◌, ◌⊎◌, ℕ, ◌<◌, ◌≤◌, inl, inr, true, false, List, [], ◌∷◌, ◌++◌, length, Option, Some, None, is_some, refl, sym, ap, subst, ◌∙◌, arith}
+use Rattle.std.proofs.Common.{◌≡◌, ◌⊎◌, ℕ, ◌<◌, ◌≤◌, inl, inr, true, false, List, [], ◌∷◌, ◌++◌, length, Option, Some, None, is_none, is_some, refl, sym, ap, subst, ◌∙◌, arith}
 use Rattle.std.proofs.lemmas.Bool.{eqb-false}
 use Rattle.tp_base.proofs.Members.{in_left, in_right, map_in}
 use Rattle.tp_base.specs.Limits.{IsFrom}
@@ -120,31 +120,44 @@ module _ (s : QuorumRule) (me : Site) (of : CommandId → Command) where
   asked_more sent out id tried o p keeps h = λ some.
       let x = h some in record { command = keeps x.command; question = ranks_more sent out _ x.question }
 
+  -- a command that is kept stays
+  command_stays : {act : Act} {id : CommandId} {old new : Sheet} {out : List Message} → SheetStep s me act id old new out
+      → is_some old.command ≡ true → is_some new.command ≡ true
+  command_stays (submits c t e home fresh) some = refl
+  command_stays (submits_and_acknowledges c t e home fresh can) some = refl
+  command_stays (proposes c floor t e le fresh) some = refl
+  command_stays (keeps_payload c e) some = refl
+  command_stays (accepts c t b e none le) some = refl
+  command_stays (knows_already c q t e) some = refl
+  command_stays (learns c q t e none last) some = refl
+  command_stays (proposes_and_answers_recovery c b t e none low nothing unjoined) some = refl
+  command_stays (answers_recovery c b e none low first) some = refl
+  command_stays _ some = some
+
+  -- a command that was proposed is kept
+  abbrev pub IsProposedKept : Sheet → Type 0
+  IsProposedKept sheet = is_none sheet.proposal ≡ false → is_some sheet.command ≡ true
+
+  pub proposed_kept : {act : Act} {id : CommandId} {old new : Sheet} {out : List Message}
+      → SheetStep s me act id old new out → IsProposedKept old → IsProposedKept new
+  proposed_kept (submits c t e home fresh) h = λ some. refl
+  proposed_kept (submits_and_acknowledges c t e home fresh can) h = λ some. refl
+  proposed_kept (proposes c floor t e le fresh) h = λ some. refl
+  proposed_kept (proposes_and_answers_recovery c b t e none low nothing unjoined) h = λ some. refl
+  proposed_kept {old = old} {new = new} (keeps_payload c e) h = λ some. refl
+  proposed_kept {old = old} {new = new} (accepts c t b e none le) h = λ some. refl
+  proposed_kept {old = old} {new = new} (knows_already c q t e) h = λ some. refl
+  proposed_kept {old = old} {new = new} (learns c q t e none last) h = λ some. refl
+  proposed_kept {old = old} {new = new} (answers_recovery c b e none low first) h = λ some. refl
+  proposed_kept _ h = h
+
   pub asked_kept : {act : Act} {id : CommandId} {old new : Sheet} {out : List Message} (sent : List Message)
       → SheetStep s me act id old new out → KeepsCommand of id old.command → IsTryAsked sent id old.tried old.command
       → IsTryAsked (out ++ sent) id new.tried new.command
   asked_kept {old = old} sent (starts_recovery id some none) command h =
       λ positive. record { command = some; question = asks_ranks id _ old.command sent command some }
-  asked_kept {id = id} {old = old} {out = out} sent (submits c t e home fresh) command h =
-      asked_more sent out id old.tried old.command _ (λ some. refl) h
-  asked_kept {id = id} {old = old} {out = out} sent (submits_and_acknowledges c t e home fresh can) command h =
-      asked_more sent out id old.tried old.command _ (λ some. refl) h
-  asked_kept {id = id} {old = old} {out = out} sent (proposes c floor t e le fresh) command h =
-      asked_more sent out id old.tried old.command _ (λ some. refl) h
-  asked_kept {id = id} {old = old} {out = out} sent (keeps_payload c e) command h =
-      asked_more sent out id old.tried old.command _ (λ some. refl) h
-  asked_kept {id = id} {old = old} {out = out} sent (accepts c t b e none le) command h =
-      asked_more sent out id old.tried old.command _ (λ some. refl) h
-  asked_kept {id = id} {old = old} {out = out} sent (knows_already c q t e) command h =
-      asked_more sent out id old.tried old.command _ (λ some. refl) h
-  asked_kept {id = id} {old = old} {out = out} sent (learns c q t e none last) command h =
-      asked_more sent out id old.tried old.command _ (λ some. refl) h
-  asked_kept {id = id} {old = old} {out = out} sent (proposes_and_answers_recovery c b t e none low nothing unjoined) command h =
-      asked_more sent out id old.tried old.command _ (λ some. refl) h
-  asked_kept {id = id} {old = old} {out = out} sent (answers_recovery c b e none low first) command h =
-      asked_more sent out id old.tried old.command _ (λ some. refl) h
-  asked_kept {id = id} {old = old} {out = out} sent _ command h =
-      asked_more sent out id old.tried old.command old.command (λ some. some) h
+  asked_kept {id = id} {old = old} {new = new} {out = out} sent step command h =
+      asked_more sent out id old.tried old.command new.command (command_stays step) h
 
   -- a full fast quorum was heeded
 
