@@ -17,3 +17,4 @@ pub mod Serving
 pub mod Standing
 pub mod Stuck
 pub mod Questions
+pub mod TakenWell
