@@ -18,3 +18,4 @@ pub mod Standing
 pub mod Stuck
 pub mod Questions
 pub mod TakenWell
+pub mod QuietRun
