@@ -19,3 +19,4 @@ pub mod Stuck
 pub mod Questions
 pub mod TakenWell
 pub mod QuietRun
+pub mod LowSaid

@@ -47,7 +47,7 @@ module _ (n : ℕ) where
   abbrev pub IsLowSheet : Sheet → Type 0
   IsLowSheet sheet = IsLow sheet.accepted_stamp (stamp_put sheet.put) sheet.known sheet.acknowledged sheet.answers
 
-  greatest_low : (ns : List ℕ) → Each (λ t. t ≤ n) ns → greatest ns ≤ n
+  pub greatest_low : (ns : List ℕ) → Each (λ t. t ≤ n) ns → greatest ns ≤ n
   greatest_low [] h = omega arith
   greatest_low (t ∷ ns) h = let rest : greatest ns ≤ n = greatest_low ns h.1 in omega (arith, h.0)
 
