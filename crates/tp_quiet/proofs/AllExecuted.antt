@@ -24,14 +24,20 @@ use Rattle.tp_topology.specs.Stability.{is_stable}
 -- the executors, with nothing under way
 pub record AreIdle (shape : Shape) (sites : List Site) (state : Site → ExecutorState) : Type 0 where
   pub still : (x : Site) → IsIn x sites → enabled shape x (state x) ≡ None
-  pub stable : (x : Site) (c : Committed) → IsIn x sites → IsIn c (state x).committed → is_stable shape (state x).told (committed_ids (state x)) c.key.stamp.0 ≡ true
-  pub accesses : (x : Site) (c : Committed) → IsIn x sites → IsIn c (state x).committed → IsIn x.partition.0 (accessed shape c.command)
-  pub everywhere : (x y : Site) (c : Committed) → IsIn x sites → IsIn y sites → IsIn c (state x).committed → IsIn y.partition.0 (accessed shape c.command) →
+  pub stable : (x : Site) (c : Committed) → IsIn x sites → IsIn c (state x).committed
+      → is_stable shape (state x).told (committed_ids (state x)) c.key.stamp.0 ≡ true
+  pub accesses : (x : Site) (c : Committed) → IsIn x sites → IsIn c (state x).committed
+      → IsIn x.partition.0 (accessed shape c.command)
+  pub everywhere : (x y : Site) (c : Committed) → IsIn x sites → IsIn y sites → IsIn c (state x).committed
+      → IsIn y.partition.0 (accessed shape c.command) →
       (d : Committed) × IsIn d (state y).committed × (d.key ≡ c.key)
-  pub one : (x y : Site) (c d : Committed) → IsIn x sites → IsIn y sites → IsIn c (state x).committed → IsIn d (state y).committed → d.key ≡ c.key → d.command ≡ c.command
-  pub declared : (x : Site) (c : Committed) → IsIn x sites → IsIn c (state x).committed → has same_id c.key.id (state x).executed ≡ true →
+  pub one : (x y : Site) (c d : Committed) → IsIn x sites → IsIn y sites → IsIn c (state x).committed
+      → IsIn d (state y).committed → d.key ≡ c.key → d.command ≡ c.command
+  pub declared : (x : Site) (c : Committed) → IsIn x sites → IsIn c (state x).committed
+      → has same_id c.key.id (state x).executed ≡ true →
       is_undeclared (state x) c.key.id (others_accessed shape c.command x.partition.0) ≡ false
-  pub heard : (x y : Site) (c : Committed) → IsIn x sites → IsIn y sites → IsIn c (state x).committed → IsIn y.partition.0 (others_accessed shape c.command x.partition.0) →
+  pub heard : (x y : Site) (c : Committed) → IsIn x sites → IsIn y sites → IsIn c (state x).committed
+      → IsIn y.partition.0 (others_accessed shape c.command x.partition.0) →
       has same_id c.key.id (state y).declared ≡ true → is_heard (state x) c.key.id y.partition.0 ≡ true
   pub places : (c : Command) (q : ℕ) → IsIn q (accessed shape c) → IsIn (site q 1) sites
 
@@ -44,7 +50,8 @@ pub record MayNot (shape : Shape) (x : Site) (state : ExecutorState) (c : Commit
   pub declare : may_declare shape x state c ≡ false
   pub execute : may_execute shape x state c ≡ false
 
-may_not : (shape : Shape) (x : Site) (state : ExecutorState) (c : Committed) → enabled_of shape x state (Some c) ≡ None → MayNot shape x state c
+may_not : (shape : Shape) (x : Site) (state : ExecutorState) (c : Committed)
+    → enabled_of shape x state (Some c) ≡ None → MayNot shape x state c
 may_not shape x state c e = of (may_declare shape x state c) (may_execute shape x state c) refl refl e
   where
     of : (a b : Bool) → may_declare shape x state c ≡ a → may_execute shape x state c ≡ b →
@@ -68,14 +75,17 @@ both_at_most a b h k = elim (key_cases a b) [
   | inr (inr more) ↦ absurd cc
 ]
 
-declared_of : (state : ExecutorState) (id : CommandId) (others : List ℕ) (q : ℕ) → IsIn q others → is_undeclared state id others ≡ false → has same_id id state.declared ≡ true
+declared_of : (state : ExecutorState) (id : CommandId) (others : List ℕ) (q : ℕ) → IsIn q others
+    → is_undeclared state id others ≡ false → has same_id id state.declared ≡ true
 declared_of state id [] q h e = absurd h
 declared_of state id (x ∷ xs) q h e = not-false (has same_id id state.declared) e
 
-ready_where : (state : ExecutorState) (id : CommandId) (others : List ℕ) → is_undeclared state id others ≡ false → ((q : ℕ) → IsIn q others → is_heard state id q ≡ true) →
+ready_where : (state : ExecutorState) (id : CommandId) (others : List ℕ) → is_undeclared state id others ≡ false
+    → ((q : ℕ) → IsIn q others → is_heard state id q ≡ true) →
     is_ready state id others ≡ true
 ready_where state id [] e h = refl
-ready_where state id (q ∷ qs) e h = and_from (has same_id id state.declared) (list_all (is_heard state id) (q ∷ qs)) (not-false (has same_id id state.declared) e) (all_from (is_heard state id) (q ∷ qs) h)
+ready_where state id (q ∷ qs) e h =
+    and_from (has same_id id state.declared) (list_all (is_heard state id) (q ∷ qs)) (not-false (has same_id id state.declared) e) (all_from (is_heard state id) (q ∷ qs) h)
 
 module _ (shape : Shape) (sites : List Site) (state : Site → ExecutorState) (h : AreIdle shape sites state) where
   abbrev all : List Committed
@@ -97,7 +107,8 @@ module _ (shape : Shape) (sites : List Site) (state : Site → ExecutorState) (h
     key : e.key ≡ c.key
     may : MayNot shape x (state x) e
 
-  stands : (x y : Site) (c d : Committed) → least all ≡ Some c → Waiting x c → Waiting y d → d.key ≡ c.key → Stands y c
+  stands : (x y : Site) (c d : Committed) → least all ≡ Some c → Waiting x c → Waiting y d → d.key ≡ c.key
+      → Stands y c
   stands x y c d is at_x at_y same =
       let found = least_some (waiting (state y)) d at_y.waits in
       let e = found.0 in
@@ -109,11 +120,13 @@ module _ (shape : Shape) (sites : List Site) (state : Site → ExecutorState) (h
         e = e;
         there = (waiting_at y e at_y.site e_there).committed;
         key = key;
-        may = may_not shape y (state y) e (subst (λ (o : Option Committed). enabled_of shape y (state y) o ≡ None) found.1 (h.still y at_y.site));
+        may =
+            may_not shape y (state y) e (subst (λ (o : Option Committed). enabled_of shape y (state y) o ≡ None) found.1 (h.still y at_y.site));
       }
 
   -- at each site of its partitions it is declared, if it has to be
-  declared_at : (x y : Site) (c : Committed) → least all ≡ Some c → Waiting x c → IsIn y sites → IsIn y.partition.0 (accessed shape c.command) →
+  declared_at : (x y : Site) (c : Committed) → least all ≡ Some c → Waiting x c → IsIn y sites
+      → IsIn y.partition.0 (accessed shape c.command) →
       is_undeclared (state y) c.key.id (others_accessed shape c.command y.partition.0) ≡ false
   declared_at x y c is at_x site_y there =
       let found = h.everywhere x y c at_x.site site_y at_x.committed there in
@@ -128,9 +141,11 @@ module _ (shape : Shape) (sites : List Site) (state : Site → ExecutorState) (h
             as_c s.e.key s.e.command s.key same (right_false _ _ s.may.declare (h.stable y s.e site_y s.there))
       ]
     where
-      as_c : (k : Key) (m : Command) → k ≡ c.key → m ≡ c.command → is_undeclared (state y) k.id (others_accessed shape m y.partition.0) ≡ false →
+      as_c : (k : Key) (m : Command) → k ≡ c.key → m ≡ c.command
+          → is_undeclared (state y) k.id (others_accessed shape m y.partition.0) ≡ false →
           is_undeclared (state y) c.key.id (others_accessed shape c.command y.partition.0) ≡ false
-      as_c k m e f t = subst (λ (z : Command). is_undeclared (state y) c.key.id (others_accessed shape z y.partition.0) ≡ false) f
+      as_c k m e f t =
+          subst (λ (z : Command). is_undeclared (state y) c.key.id (others_accessed shape z y.partition.0) ≡ false) f
           (subst (λ (z : Key). is_undeclared (state y) z.id (others_accessed shape m y.partition.0) ≡ false) e t)
 
   no_least : (x : Site) (c : Committed) → least all ≡ Some c → Waiting x c → ⊥
@@ -141,7 +156,8 @@ module _ (shape : Shape) (sites : List Site) (state : Site → ExecutorState) (h
       let ready : is_ready (state x) c.key.id (others_accessed shape c.command x.partition.0) ≡ true = ready_where (state x) c.key.id _ here heard in
       let not_ready : is_ready (state x) c.key.id (others_accessed shape c.command x.partition.0) ≡ false =
       subst (λ (z : Command). is_ready (state x) c.key.id (others_accessed shape z x.partition.0) ≡ false) same
-      (subst (λ (z : Key). is_ready (state x) z.id (others_accessed shape s.e.command x.partition.0) ≡ false) s.key (right_false _ _ s.may.execute (h.stable x s.e at.site s.there))) in
+      (subst (λ (z : Key). is_ready (state x) z.id (others_accessed shape s.e.command x.partition.0) ≡ false) s.key
+      (right_false _ _ s.may.execute (h.stable x s.e at.site s.there))) in
       cc
     where
       heard : (q : ℕ) → IsIn q (others_accessed shape c.command x.partition.0) → is_heard (state x) c.key.id q ≡ true
@@ -157,7 +173,8 @@ module _ (shape : Shape) (sites : List Site) (state : Site → ExecutorState) (h
           turned : (a b : ℕ) → not (a == b) ≡ true → not (b == a) ≡ true
           turned a b e = grind (arith, e)
 
-  pub all_executed : (x : Site) (c : Committed) → IsIn x sites → IsIn c (state x).committed → has same_id c.key.id (state x).executed ≡ true
+  pub all_executed : (x : Site) (c : Committed) → IsIn x sites → IsIn c (state x).committed
+      → has same_id c.key.id (state x).executed ≡ true
   all_executed x c site there = elim (cases_Bool (has same_id c.key.id (state x).executed)) [
     | inl executed ↦ executed
     | inr waits ↦

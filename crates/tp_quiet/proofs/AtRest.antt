@@ -45,11 +45,13 @@ append_none : {X : Type 0} (xs ys : List X) → xs ++ ys ≡ [] → (xs ≡ []) 
 append_none [] ys e = (refl, e)
 append_none (x ∷ xs) ys e = absurd cc
 
-pub none_there : {X Y : Type 0} (f : X → Option Y) (xs : List X) (x : X) → filter_map f xs ≡ [] → IsIn x xs → f x ≡ None
+pub none_there : {X Y : Type 0} (f : X → Option Y) (xs : List X) (x : X) → filter_map f xs ≡ [] → IsIn x xs
+    → f x ≡ None
 none_there f [] x e h = absurd h
 none_there f (y ∷ ys) x e h = of_first (f y) refl e h (λ rest there. none_there f ys x rest there)
   where
-    of_first : (o : Option _) → f y ≡ o → cons_option o (filter_map f ys) ≡ [] → IsIn x (y ∷ ys) → (filter_map f ys ≡ [] → IsIn x ys → f x ≡ None) → f x ≡ None
+    of_first : (o : Option _) → f y ≡ o → cons_option o (filter_map f ys) ≡ [] → IsIn x (y ∷ ys)
+        → (filter_map f ys ≡ [] → IsIn x ys → f x ≡ None) → f x ≡ None
     of_first None is e (inl same) rest = ap f same ∙ is
     of_first None is e (inr there) rest = rest e there
     of_first (Some z) is e h rest = absurd cc
@@ -61,13 +63,15 @@ Spares line = is_crash (OfItself line.inner) ≡ false
 
 put_spares : (x : Planned) (ys : List Planned) → Spares x → Each Spares ys → Each Spares (put_in x ys)
 put_spares x [] h k = (h, tt)
-put_spares x (y ∷ ys) h k = cond_both _ (x ∷ y ∷ ys) (y ∷ put_in x ys) (Each Spares) (λ t. (h, k)) (λ f. (k.0, put_spares x ys h k.1))
+put_spares x (y ∷ ys) h k =
+    cond_both _ (x ∷ y ∷ ys) (y ∷ put_in x ys) (Each Spares) (λ t. (h, k)) (λ f. (k.0, put_spares x ys h k.1))
 
 time_spares : (xs : List Planned) → Each Spares xs → Each Spares (by_time xs)
 time_spares [] h = tt
 time_spares (x ∷ xs) h = put_spares x (by_time xs) h.0 (time_spares xs h.1)
 
-lines_spare : (s : Site) (plan : List PlanLine) → list_any is_harm plan ≡ false → Each Spares (filter_map (asked_of s) plan)
+lines_spare : (s : Site) (plan : List PlanLine) → list_any is_harm plan ≡ false
+    → Each Spares (filter_map (asked_of s) plan)
 lines_spare s [] h = tt
 lines_spare s (CrashLine site after ∷ plan) h = absurd cc
 lines_spare s (RecoverLine site id after ∷ plan) h =
@@ -127,7 +131,8 @@ module _ (script : Script) (accepted : IsAccepted script) (harmless : IsHarmless
 
   -- each output is delivered, and at least once
 
-  none_lost : (from to : ActorName) (n : ℕ) (plan : List PlanLine) → list_any is_harm plan ≡ false → list_any (is_lost_by from to n) plan ≡ false
+  none_lost : (from to : ActorName) (n : ℕ) (plan : List PlanLine) → list_any is_harm plan ≡ false
+      → list_any (is_lost_by from to n) plan ≡ false
   none_lost from to n [] h = refl
   none_lost from to n (CrashLine site after ∷ plan) h = absurd cc
   none_lost from to n (RecoverLine site id after ∷ plan) h = none_lost from to n plan h
@@ -139,7 +144,8 @@ module _ (script : Script) (accepted : IsAccepted script) (harmless : IsHarmless
   first_some [] n h k = k
   first_some (m ∷ ms) n h k = h.0
 
-  repeats_some : (from to : ActorName) (n : ℕ) (plan : List PlanLine) → Each (IsPlanLineOf script) plan → Each (λ k. 1 ≤ k) (filter_map (repeated_by from to n) plan)
+  repeats_some : (from to : ActorName) (n : ℕ) (plan : List PlanLine) → Each (IsPlanLineOf script) plan
+      → Each (λ k. 1 ≤ k) (filter_map (repeated_by from to n) plan)
   repeats_some from to n [] h = tt
   repeats_some from to n (CrashLine site after ∷ plan) h = repeats_some from to n plan h.1
   repeats_some from to n (RecoverLine site id after ∷ plan) h = repeats_some from to n plan h.1
@@ -149,7 +155,8 @@ module _ (script : Script) (accepted : IsAccepted script) (harmless : IsHarmless
       (λ t. (omega (arith, h.0), repeats_some from to n plan h.1)) (λ f. repeats_some from to n plan h.1)
   repeats_some from to n (RepeatAll times ∷ plan) h = repeats_some from to n plan h.1
 
-  all_some : (plan : List PlanLine) → Each (IsPlanLineOf script) plan → Each (λ k. 1 ≤ k) (filter_map times_for_all plan)
+  all_some : (plan : List PlanLine) → Each (IsPlanLineOf script) plan
+      → Each (λ k. 1 ≤ k) (filter_map times_for_all plan)
   all_some [] h = tt
   all_some (CrashLine site after ∷ plan) h = all_some plan h.1
   all_some (RecoverLine site id after ∷ plan) h = all_some plan h.1
@@ -158,7 +165,8 @@ module _ (script : Script) (accepted : IsAccepted script) (harmless : IsHarmless
   all_some (RepeatAll times ∷ plan) h = (omega (arith, h.0), all_some plan h.1)
 
   -- an output of which nothing is left was delivered
-  was_delivered : (older : List Entry) (p : Parcel) → deliveries_left script older p ≡ 0 → 0 < deliveries older p.entry p.place
+  was_delivered : (older : List Entry) (p : Parcel) → deliveries_left script older p ≡ 0
+      → 0 < deliveries older p.entry p.place
   unfolding deliveries_left fate_of
   was_delivered older p none =
       let from = p.message.from in
@@ -176,7 +184,8 @@ module _ (script : Script) (accepted : IsAccepted script) (harmless : IsHarmless
     pub at : output_at older entry place ≡ Some m
     pub took : IsIn (Took m) (acts older m.to)
 
-  delivery_is : (entry place : ℕ) (event : Event) → is_delivery_of entry place event ≡ true → event ≡ Deliver entry place
+  delivery_is : (entry place : ℕ) (event : Event) → is_delivery_of entry place event ≡ true
+      → event ≡ Deliver entry place
   delivery_is entry place (Deliver e p) h =
       let both = and_parts (e == entry) (p == place) h in
       let one : e ≡ entry = eqb-true e entry both.0 in
@@ -184,29 +193,38 @@ module _ (script : Script) (accepted : IsAccepted script) (harmless : IsHarmless
   delivery_is entry place (Dropped e p) h = absurd cc
   delivery_is entry place (OfItself inner) h = absurd cc
 
-  stays_at : (e : Entry) (older : List Entry) (entry place : ℕ) (m : Message) → output_at older entry place ≡ Some m → output_at (e ∷ older) entry place ≡ Some m
+  stays_at : (e : Entry) (older : List Entry) (entry place : ℕ) (m : Message)
+      → output_at older entry place ≡ Some m → output_at (e ∷ older) entry place ≡ Some m
   stays_at e older entry place m is = sent_output (e ∷ older) (record { entry = entry; place = place; message = m }) (in_left (sent older) _ _ (output_sent older entry place m is))
 
-  acts_stay : (e : Entry) (older : List Entry) (a : ActorName) (act : Act) → IsIn act (acts older a) → IsIn act (acts (e ∷ older) a)
-  acts_stay e older a act h = cond_both (same_name e.actor a) (with_act (act_of older e.event) (acts older a)) (acts older a) (IsIn act) (λ t. more (act_of older e.event)) (λ f. h)
+  acts_stay : (e : Entry) (older : List Entry) (a : ActorName) (act : Act) → IsIn act (acts older a)
+      → IsIn act (acts (e ∷ older) a)
+  acts_stay e older a act h =
+      cond_both (same_name e.actor a) (with_act (act_of older e.event) (acts older a)) (acts older a) (IsIn act) (λ t. more (act_of older e.event)) (λ f. h)
     where
       more : (o : Option Act) → IsIn act (with_act o (acts older a))
       more None = h
       more (Some new) = inr h
 
-  taken : (older : List Entry) → IsFreeHistory script older → (entry place : ℕ) → 0 < deliveries older entry place → Taken older entry place
+  taken : (older : List Entry) → IsFreeHistory script older → (entry place : ℕ) → 0 < deliveries older entry place
+      → Taken older entry place
   taken [] history entry place some = absurd (omega arith)
-  taken (e ∷ older) history entry place some = of_test (is_delivery_of entry place e.event) refl some (λ more. taken older history.0 entry place more)
+  taken (e ∷ older) history entry place some =
+      of_test (is_delivery_of entry place e.event) refl some (λ more. taken older history.0 entry place more)
     where
-      here : (o : Option Message) → output_at older entry place ≡ o → IsFor e.actor o → e.event ≡ Deliver entry place → Taken (e ∷ older) entry place
+      here : (o : Option Message) → output_at older entry place ≡ o → IsFor e.actor o
+          → e.event ≡ Deliver entry place → Taken (e ∷ older) entry place
       here None is for event = absurd for
       here (Some m) is for event = record {
         m = m;
         at = stays_at e older entry place m is;
-        took = subst (IsIn (Took m)) (sym (acts_then older e m.to (Took m) (sym for) (ap (act_of older) event ∙ ap (option_map Took) is))) (inl refl);
+        took =
+            subst (IsIn (Took m)) (sym (acts_then older e m.to (Took m) (sym for) (ap (act_of older) event ∙ ap
+            (option_map Took) is))) (inl refl);
       }
 
-      of_test : (b : Bool) → is_delivery_of entry place e.event ≡ b → 0 < length (cond b (e ∷ filter (λ x. is_delivery_of entry place x.event) older) (filter (λ x. is_delivery_of entry place x.event) older)) →
+      of_test : (b : Bool) → is_delivery_of entry place e.event ≡ b
+          → 0 < length (cond b (e ∷ filter (λ x. is_delivery_of entry place x.event) older) (filter (λ x. is_delivery_of entry place x.event) older)) →
           (0 < deliveries older entry place → Taken older entry place) → Taken (e ∷ older) entry place
       of_test true is some rest =
           let event = delivery_is entry place e.event is in
@@ -225,7 +243,8 @@ module _ (script : Script) (accepted : IsAccepted script) (harmless : IsHarmless
   in_numbered : (n k : ℕ) (ms : List Message) (m : Message) → IsIn m ms → InParcel (numbered n k ms) m
   in_numbered n k [] m h = absurd h
   in_numbered n k (x ∷ ms) m (inl same) = record { parcel = record { entry = n; place = k; message = x }; there = inl refl; is = sym same }
-  in_numbered n k (x ∷ ms) m (inr later) = let rest = in_numbered n (suc k) ms m later in record { parcel = rest.parcel; there = inr rest.there; is = rest.is }
+  in_numbered n k (x ∷ ms) m (inr later) =
+      let rest = in_numbered n (suc k) ms m later in record { parcel = rest.parcel; there = inr rest.there; is = rest.is }
 
   in_sent : (older : List Entry) (m : Message) → IsSent older m → InParcel (sent older) m
   in_sent [] m h = absurd h
@@ -248,9 +267,11 @@ module _ (script : Script) (accepted : IsAccepted script) (harmless : IsHarmless
 
   listed : (a : ActorName) → is_known script a ≡ true → IsIn a (actors_of script)
   unfolding actors_of
-  listed (Process s) h = in_left (Sessions ++ Processes) Executors (Process s) (in_right Sessions Processes (Process s)
+  listed (Process s) h =
+      in_left (Sessions ++ Processes) Executors (Process s) (in_right Sessions Processes (Process s)
       (map_in (λ (x : Site). Process x) (sites_of script) s (site_listed script s h)))
-  listed (Executor s) h = in_right (Sessions ++ Processes) Executors (Executor s) (map_in (λ (x : Site). Executor x) (sites_of script) s (site_listed script s h))
+  listed (Executor s) h =
+      in_right (Sessions ++ Processes) Executors (Executor s) (map_in (λ (x : Site). Executor x) (sites_of script) s (site_listed script s h))
   listed (Session s) h = in_left (Sessions ++ Processes) Executors (Session s) (in_left Sessions Processes (Session s)
       (map_in (λ (n : ℕ). Session (record { 0 = n })) (up_to (length script.homes)) s.0 (session_listed s h)))
     where
@@ -293,7 +314,8 @@ module _ (script : Script) (accepted : IsAccepted script) (harmless : IsHarmless
       parts = parts_of older quiet
 
       undue : (a : ActorName) → is_known script a ≡ true → is_none (due_of script older a) ≡ true
-      undue (Process s) h = ap is_none (inner_none (Process s) (due script older s) (if_true (is_live older (Process s)) _ (live_all older history (Process s))
+      undue (Process s) h =
+          ap is_none (inner_none (Process s) (due script older s) (if_true (is_live older (Process s)) _ (live_all older history (Process s))
           (none_there (due_item script older) (sites_of script) s parts.lines (site_listed script s h))))
       undue (Executor s) h = refl
       undue (Session s) h = refl
@@ -313,4 +335,5 @@ module _ (script : Script) (accepted : IsAccepted script) (harmless : IsHarmless
           subst (λ (x : Message). IsIn (Took x) (acts older x.to)) same t.took
 
       still : (a : ActorName) → is_known script a ≡ true → enabled (identity_in script a) (acts older a) ≡ None
-      still a h = inner_none a _ (if_true (is_waiting script older a) _ (waits a h) (none_there (own_item script older) (actors_of script) a parts.own (listed a h)))
+      still a h =
+          inner_none a _ (if_true (is_waiting script older a) _ (waits a h) (none_there (own_item script older) (actors_of script) a parts.own (listed a h)))

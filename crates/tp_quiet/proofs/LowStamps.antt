@@ -51,32 +51,42 @@ module _ (n : ℕ) where
   greatest_low [] h = omega arith
   greatest_low (t ∷ ns) h = let rest : greatest ns ≤ n = greatest_low ns h.1 in omega (arith, h.0)
 
-  by_low : (f : RecoveryAnswer → ℕ) (xs : List RecoveryAnswer) → ((a : RecoveryAnswer) → IsLowAnswer a → f a ≤ n) → Each IsLowAnswer xs → greatest_by f xs ≤ n
+  by_low : (f : RecoveryAnswer → ℕ) (xs : List RecoveryAnswer) → ((a : RecoveryAnswer) → IsLowAnswer a → f a ≤ n)
+      → Each IsLowAnswer xs → greatest_by f xs ≤ n
   by_low f [] low h = omega arith
   by_low f (a ∷ xs) low h = let rest : greatest_by f xs ≤ n = by_low f xs low h.1 in omega (arith, low a h.0)
 
-  proposals_low : (in_quorum : ℕ → Bool) (home : ℕ) (xs : List RecoveryAnswer) → Each IsLowAnswer xs → chosen_of_proposals in_quorum home xs ≤ n
-  proposals_low in_quorum home xs h = cond_both (list_any (tells_slow in_quorum home) xs) (greatest_by (λ a. a.stamp.0) xs) (greatest_by (member_stamp in_quorum) xs) (λ (t : ℕ). t ≤ n)
+  proposals_low : (in_quorum : ℕ → Bool) (home : ℕ) (xs : List RecoveryAnswer) → Each IsLowAnswer xs
+      → chosen_of_proposals in_quorum home xs ≤ n
+  proposals_low in_quorum home xs h =
+      cond_both (list_any (tells_slow in_quorum home) xs) (greatest_by (λ a. a.stamp.0) xs) (greatest_by (member_stamp in_quorum) xs) (λ (t : ℕ). t ≤ n)
       (λ t. by_low (λ a. a.stamp.0) xs (λ a low. low) h)
-      (λ f. by_low (member_stamp in_quorum) xs (λ a low. cond_both (in_quorum a.rank.0) a.stamp.0 0 (λ (t : ℕ). t ≤ n) (λ t. low) (λ f. omega arith)) h)
+      (λ f. by_low (member_stamp in_quorum) xs (λ a low. cond_both (in_quorum a.rank.0) a.stamp.0 0 (λ
+      (t : ℕ). t ≤ n) (λ t. low) (λ f. omega arith)) h)
 
-  best_low : (found : Option RecoveryAnswer) (xs : List RecoveryAnswer) → IfAny IsLowAnswer found → Each IsLowAnswer xs → IfAny IsLowAnswer (best_from found xs)
+  best_low : (found : Option RecoveryAnswer) (xs : List RecoveryAnswer) → IfAny IsLowAnswer found
+      → Each IsLowAnswer xs → IfAny IsLowAnswer (best_from found xs)
   best_low found [] h k = h
   best_low None (a ∷ xs) h k = best_low (Some a) xs k.0 k.1
-  best_low (Some b) (a ∷ xs) h k = best_low (Some (better a (Some b))) xs (cond_both (is_over a b) a b IsLowAnswer (λ t. k.0) (λ f. h)) k.1
+  best_low (Some b) (a ∷ xs) h k =
+      best_low (Some (better a (Some b))) xs (cond_both (is_over a b) a b IsLowAnswer (λ t. k.0) (λ f. h)) k.1
 
-  with_low : (in_quorum : ℕ → Bool) (home : ℕ) (xs : List RecoveryAnswer) (o : Option RecoveryAnswer) → Each IsLowAnswer xs → IfAny IsLowAnswer o → chosen_with in_quorum home xs o ≤ n
+  with_low : (in_quorum : ℕ → Bool) (home : ℕ) (xs : List RecoveryAnswer) (o : Option RecoveryAnswer)
+      → Each IsLowAnswer xs → IfAny IsLowAnswer o → chosen_with in_quorum home xs o ≤ n
   with_low in_quorum home xs None h k = proposals_low in_quorum home xs h
-  with_low in_quorum home xs (Some best) h k = cond_both (nat_lt 0 best.accepted) best.stamp.0 (chosen_of_proposals in_quorum home xs) (λ (t : ℕ). t ≤ n) (λ t. k) (λ f. proposals_low in_quorum home xs h)
+  with_low in_quorum home xs (Some best) h k =
+      cond_both (nat_lt 0 best.accepted) best.stamp.0 (chosen_of_proposals in_quorum home xs) (λ (t : ℕ). t ≤ n) (λ t. k) (λ f. proposals_low in_quorum home xs h)
 
-  choice_low : (in_quorum : ℕ → Bool) (home : ℕ) (xs : List RecoveryAnswer) → Each IsLowAnswer xs → recovery_choice in_quorum home xs ≤ n
+  choice_low : (in_quorum : ℕ → Bool) (home : ℕ) (xs : List RecoveryAnswer) → Each IsLowAnswer xs
+      → recovery_choice in_quorum home xs ≤ n
   unfolding recovery_choice
   choice_low in_quorum home xs h = with_low in_quorum home xs (best_from None xs) h (best_low None xs tt h)
 
   took_low : (m : Message) (body : Body) → m.body ≡ body → IsLowBody m.body → IsLowBody body
   took_low m body e h = subst IsLowBody e h
 
-  pub low_kept : {s : QuorumRule} {me : Site} {act : Act} {id : CommandId} {old new : Sheet} {out : List Message} → SheetStep s me act id old new out → IsLowAct act →
+  pub low_kept : {s : QuorumRule} {me : Site} {act : Act} {id : CommandId} {old new : Sheet} {out : List Message}
+      → SheetStep s me act id old new out → IsLowAct act →
       IfAny (λ (q : Proposed). q.stamp ≤ n) new.proposal → IsLowSheet old → IsLowSheet new
   low_kept {old = old} (submits_and_acknowledges c t e home fresh can) took proposal h = record {
     accepted_low = h.accepted_low;
@@ -90,7 +100,8 @@ module _ (n : ℕ) where
     putting_low = h.putting_low;
     known_low = h.known_low;
     answers_low = h.answers_low;
-    acknowledged_low = with_fit (IfAny (λ (t : ℕ). t ≤ n)) old.acknowledged _ (Some t) h.acknowledged_low (took_low m _ e took);
+    acknowledged_low =
+        with_fit (IfAny (λ (t : ℕ). t ≤ n)) old.acknowledged _ (Some t) h.acknowledged_low (took_low m _ e took);
   }
   low_kept {old = old} (decides_fast {m} id t e can full fast last) took proposal h =
       let table = with_fit (IfAny (λ (t : ℕ). t ≤ n)) old.acknowledged _ (Some t) h.acknowledged_low (took_low m _ e took) in
@@ -99,7 +110,8 @@ module _ (n : ℕ) where
         putting_low = h.putting_low;
         answers_low = h.answers_low;
         acknowledged_low = table;
-        known_low = with_fit (IfAny (λ (t : ℕ). t ≤ n)) old.known _ (Some _) h.known_low (greatest_low _ (present_fit (λ (t : ℕ). t ≤ n) _ table));
+        known_low =
+            with_fit (IfAny (λ (t : ℕ). t ≤ n)) old.known _ (Some _) h.known_low (greatest_low _ (present_fit (λ (t : ℕ). t ≤ n) _ table));
       }
   low_kept {old = old} (puts_slow {m} id t e can full slow) took proposal h =
       let table = with_fit (IfAny (λ (t : ℕ). t ≤ n)) old.acknowledged _ (Some t) h.acknowledged_low (took_low m _ e took) in
@@ -129,7 +141,8 @@ module _ (n : ℕ) where
   low_kept {s = s} {old = old} (puts_recovered {m} id t made a b c e can is enough) took proposal h =
       let table = with_fit (IfAny IsLowAnswer) old.answers _ (Some _) h.answers_low (took_low m _ e took) in
       record { accepted_low = h.accepted_low; known_low = h.known_low; acknowledged_low = h.acknowledged_low; answers_low = table; putting_low = choice_low (s.in_quorum c) c.home.0 _ (present_fit IsLowAnswer _ table) }
-  low_kept {s = s} (starts_recovery id some none) took proposal h = record { accepted_low = h.accepted_low; putting_low = h.putting_low; known_low = h.known_low; acknowledged_low = h.acknowledged_low; answers_low = no_answers s.shape.replicas }
+  low_kept {s =
+      s} (starts_recovery id some none) took proposal h = record { accepted_low = h.accepted_low; putting_low = h.putting_low; known_low = h.known_low; acknowledged_low = h.acknowledged_low; answers_low = no_answers s.shape.replicas }
     where
       no_answers : (k : ℕ) → Each (IfAny IsLowAnswer) (replicate k None)
       no_answers zero = tt

@@ -1,23 +1,23 @@
 -- No process proposes to itself, and each question of a recovery names a ballot that its sender tried.
 -- Used for each message of a run: when it is taken, it is to what was asked.
-use Rattle.std.proofs.Common.{◌≡◌, ◌⊎◌, ℕ, ◌<◌, ◌≤◌, Bool, inl, inr, true, false, cond, List, [], ◌∷◌, ◌++◌, map, Option, Some, None, refl, sym, ap, subst, ◌∙◌, arith}
+use Rattle.std.proofs.Common.{◌≡◌, ℕ, ◌≤◌, Bool, inl, inr, true, cond, List, [], ◌∷◌, map, Option, Some, None, sym, ap, subst, arith}
 use Rattle.std.specs.Prelude.{◌==◌, filter, not}
 use Rattle.std.proofs.lemmas.Bool.{both_ways, cond_both, cond-true, eq-eqb, not-true}
 use Rattle.tp_base.proofs.Each.{each_append, each_weaker}
 use Rattle.tp_base.proofs.SameNames.{same_id_refl}
-use Rattle.tp_base.specs.Lists.{Each, IsIn}
+use Rattle.tp_base.specs.Lists.{Each}
 use Rattle.tp_base.specs.Names.{same_id}
 use Rattle.tp_base.specs.declared.names.ActorName.{ActorName}
-use Rattle.tp_base.specs.declared.names.ActorName.TheVariants.{Process, Executor}
+use Rattle.tp_base.specs.declared.names.ActorName.TheVariants.{Process}
 use Rattle.tp_base.specs.declared.names.CommandId.{CommandId}
 use Rattle.tp_base.specs.declared.names.Site.{Site}
 use Rattle.tp_facts.proofs.ActSteps.{step_of_act}
-use Rattle.tp_facts.proofs.Facts.{IsGenuine, IsHere, KeepsCommand, ProcessFacts, sent_by}
+use Rattle.tp_facts.proofs.Facts.{IsGenuine, IsHere, KeepsCommand, sent_by}
 use Rattle.tp_facts.proofs.Invariant.{facts_hold}
 use Rattle.tp_facts.proofs.StepCases.{IsFinal, untold, final, chosen_stamp, with_recovery_answer, SheetStep, submits, submits_and_acknowledges, proposes, decides_fast, puts_slow, accepts, decides_by_votes, learns, proposes_and_answers_recovery, answers_recovery, puts_recovered, starts_recovery, ProcessStep, does_nothing, bumps_clock, announces, passes_commit_on, changes_sheet, attaches_proposal}
 use Rattle.tp_ops.specs.declared.command.Command.{Command}
 use Rattle.tp_rules.proofs.SendsOfProcess.{bumps_send, commit_messages_send, each_to, put_to_vote_sends, stamp}
-use Rattle.tp_rules.specs.Acts.{Act, Took, Did}
+use Rattle.tp_rules.specs.Acts.{Act}
 use Rattle.tp_rules.specs.Addresses.{executors_of, message, processes_of, site}
 use Rattle.tp_rules.specs.Process.{ProcessState, Step, announced, asked, bumps, commit_messages, commit_reply, proposals, react, state_after, untold as untold_pairs}
 use Rattle.tp_rules.specs.Sheet.{QuorumRule, Sheet}

@@ -5,7 +5,7 @@ use Rattle.tp_base.specs.Limits.{IsFrom}
 use Rattle.tp_base.specs.Lists.{IsIn}
 use Rattle.tp_base.specs.declared.names.ActorName.TheVariants.{Process}
 use Rattle.tp_base.specs.declared.names.Site.{Site}
-use Rattle.tp_facts.proofs.Commands.{command_in, command_in_names}
+use Rattle.tp_facts.proofs.Commands.{command_in_names}
 use Rattle.tp_facts.specs.Settled.{sheet_at}
 use Rattle.tp_ops.specs.declared.command.Command.{Command}
 use Rattle.tp_rules.proofs.Histories.{free_history}

@@ -1,8 +1,7 @@
 -- In a run each message that is admitted comes in time: a reply is to what was asked, and its question was asked before.
 -- Used for each process of a run in which nothing is pending.
-use Rattle.std.proofs.Common.{◌≡◌, ◌⊎◌, ℕ, ◌<◌, ◌≤◌, inl, inr, true, false, List, [], ◌∷◌, Option, Some, None, is_none, is_some, refl, sym, ap, subst, ◌∙◌, arith}
+use Rattle.std.proofs.Common.{◌≡◌, ℕ, ◌≤◌, inl, true, false, List, [], ◌∷◌, Option, Some, None, is_none, is_some, refl, sym, ap, subst, ◌∙◌, arith}
 use Rattle.tp_base.proofs.Each.{each_in, each_of, each_weaker}
-use Rattle.tp_base.specs.Limits.{STAMP_LIMIT, IsFrom}
 use Rattle.tp_base.specs.Lists.{Each, IsIn}
 use Rattle.tp_base.specs.declared.names.ActorName.{ActorName}
 use Rattle.tp_base.specs.declared.names.ActorName.TheVariants.{Process}
@@ -11,7 +10,7 @@ use Rattle.tp_base.specs.declared.names.Site.{Site}
 use Rattle.tp_facts.proofs.Commands.{command_in, command_in_names}
 use Rattle.tp_facts.proofs.Consequences.{put_of, said_of}
 use Rattle.tp_facts.proofs.Deliveries.{sent_before, took_sent}
-use Rattle.tp_facts.proofs.Facts.{HasBallot, IsCommandOf, IsGenuine, IsHere, KeepsCommand, sent_by}
+use Rattle.tp_facts.proofs.Facts.{HasBallot, IsGenuine, IsHere, KeepsCommand, sent_by}
 use Rattle.tp_facts.proofs.RuleTests.{ballot_put}
 use Rattle.tp_facts.proofs.RunFacts.{FactsAt, run_holds}
 use Rattle.tp_facts.proofs.SamePartition.{IsPeer, from_own_partition}
@@ -115,7 +114,7 @@ module _ (script : Script) (accepted : IsAccepted script) where
     asked_here j body came = (
       came.message,
       sent_by_process script older history k came.message
-      (took_sent older (Process j) came.message came.taken) (came.from_it ∙ to),
+          (took_sent older (Process j) came.message came.taken) (came.from_it ∙ to),
       came.is,
     )
 
@@ -168,11 +167,10 @@ module _ (script : Script) (accepted : IsAccepted script) where
     timely (MConsensusAck id b) e range =
         let r = reply (MConsensusAck id b) e tt in
         let q = asked_here (site k.partition.0 (rank_of m.from)) (MConsensus r.0 r.1 b) r.3 in
-        let put = put_of facts q.0 r.0 r.1 b q.1 q.2 in
-        (
+        let put = put_of facts q.0 r.0 r.1 b q.1 q.2 in (
           omega (arith, range.3.0),
           subst
-          (λ (i : CommandId). b ≤ ballot_put ((state_after rule k (acts older (Process k))).sheets i).put) r.2 put.below,
+              (λ (i : CommandId). b ≤ ballot_put ((state_after rule k (acts older (Process k))).sheets i).put) r.2 put.below,
         )
     timely (MRec c b) e range = omega (arith, range.3.1)
     timely (MRecAck id t made a b) e range =
@@ -180,8 +178,7 @@ module _ (script : Script) (accepted : IsAccepted script) where
         let q = asked_here (site k.partition.0 (rank_of m.from)) (MRec r.0 b) r.2 in
         let sheets : CommandId → Sheet = (state_after rule k (acts older (Process k))).sheets in
         let fair = each_in (AsksFairly k sheets) (sent_by rule k (acts older (Process k))) q.0
-        (all_fair rule k of (is_here k at) (acts older (Process k)) (are_genuine older history k)) q.1 in
-        (
+        (all_fair rule k of (is_here k at) (acts older (Process k)) (are_genuine older history k)) q.1 in (
           omega (arith, range.5.0),
           subst (λ (i : CommandId). b ≤ (sheets i).tried) r.1 (subst (IsFair k sheets q.0.to) q.2 fair),
         )
@@ -234,13 +231,12 @@ module _ (script : Script) (accepted : IsAccepted script) where
       by_act (Took m) same is rest h =
           let there : IsIn (Took m) (acts (e ∷ older) (Process k)) =
           subst (IsIn (Took m)) (sym (acts_then older e (Process k) (Took m) same is)) (inl refl) in
-          let before = sent_before script (e ∷ older) history (Process k) m there in
-          (
+          let before = sent_before script (e ∷ older) history (Process k) m there in (
             rest h.0,
             well older history.0 k at m before.0 before.1
-            (λ peer. from_own_partition script (e ∷ older) history k.partition.0 k m refl there peer)
-            (each_in (IsFitAct script) (acts (e ∷ older) (Process k)) (Took m) (fits (e ∷ older) history (Process k)) there)
-            h.1,
+                (λ peer. from_own_partition script (e ∷ older) history k.partition.0 k m refl there peer)
+                (each_in (IsFitAct script) (acts (e ∷ older) (Process k)) (Took m) (fits (e ∷ older) history (Process k)) there)
+                h.1,
           )
 
   pub all_to_others : (older : List Entry) → IsFreeHistory script older → (k : Site)
