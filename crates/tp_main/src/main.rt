@@ -18,8 +18,11 @@ fn main(rt: HostRuntime) -> ExitCode {
     let mut input = StdSource::new(rt.reader());
     let mut out = StdSink::new(io::writer(&rt));
     let finished = tempo_plain(rt.alloc(), words.as_slice(), &mut input, &mut out);
-    if let Some(cause) = &finished.cause {
-        let _ = eprintln!(rt; "tempo: {cause}");
+    match &finished.cause {
+        None | Some(Cause::Verdict { .. }) => {}
+        Some(cause) => {
+            let _ = eprintln!(rt; "tempo: {cause}");
+        }
     }
     ExitCode::from(finished.status)
 }

@@ -1,2 +1,3 @@
+pub mod BothLaws
 pub mod TextLaws
 pub mod TopCalls

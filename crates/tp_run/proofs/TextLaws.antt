@@ -106,11 +106,18 @@ long_cause text many =
     let long : nat_lt INPUT_MOST (length text) ≡ true = grind (arith, many) in
     rw long refl
 
-at_most : (n most : ℕ) → nat_le n most ≡ true → n ≤ most
+pub at_most : (n most : ℕ) → nat_le n most ≡ true → n ≤ most
 at_most n most e = grind (arith, e)
 
-above : (n most : ℕ) → nat_le n most ≡ false → most < n
+pub above : (n most : ℕ) → nat_le n most ≡ false → most < n
 above n most e = grind (arith, e)
+
+-- what was taken of a text is the whole text where it is shorter than what might have been taken
+pub whole : (most : ℕ) (text bytes : List ℕ) → bytes ≡ take (most + 1) text → length bytes ≤ most → bytes ≡ text
+whole most text bytes is few =
+    let count : length bytes ≡ min (most + 1) (length text) = ap length is ∙ length-take (most + 1) text in
+    let short : length text ≤ most + 1 = omega (arith, count, few) in
+    is ∙ take_all (most + 1) text short
 
 -- the cause of a text is that of its front, of which one byte more than an input may have is enough
 pub front_cause : (text front : List ℕ) → front ≡ take (INPUT_MOST + 1) text → cause_of front ≡ cause_of text
@@ -122,8 +129,7 @@ front_cause text front is = go (nat_le (length front) INPUT_MOST) refl
     go : (b : Bool) → nat_le (length front) INPUT_MOST ≡ b → cause_of front ≡ cause_of text
     go true few =
         let short : length front ≤ INPUT_MOST = at_most (length front) INPUT_MOST few in
-        let all : length text ≤ INPUT_MOST + 1 = omega (arith, count, short) in
-        ap cause_of (is ∙ take_all (INPUT_MOST + 1) text all)
+        ap cause_of (whole INPUT_MOST text front is short)
     go false many =
         let long : INPUT_MOST < length front = above (length front) INPUT_MOST many in
         let longer : INPUT_MOST < length text = omega (arith, count, long) in

@@ -1,7 +1,7 @@
 -- What the words ask for.
 use Rattle.std.specs.Prelude.{ℕ, bytes_eq, codes, if◌then◌else◌, map, string_bytes, String, Bool, true, false, List, [], ◌∷◌, Option, Some, None, Result, Ok, Err}
 use Rattle.tp_run.specs.declared.call.Call.{Call}
-use Rattle.tp_run.specs.declared.call.Call.TheVariants.{Step, Gen, Load}
+use Rattle.tp_run.specs.declared.call.Call.TheVariants.{Step, Check, Gen, Load}
 use Rattle.tp_text.specs.Numbers.{number_of}
 use Rattle.tp_text.specs.declared.numbers.NumberFault.{NumberFault}
 
@@ -13,9 +13,9 @@ abbrev pub numbered_call : List ℕ → Result ℕ NumberFault → Option Call
 numbered_call word (Ok n) = call_for word n
 numbered_call word (Err fault) = None
 
--- `step`, `gen N` and `load N`, and nothing else
+-- `step`, `check`, `gen N` and `load N`, and nothing else
 abbrev pub call_in : List (List ℕ) → Option Call
-call_in (word ∷ []) = if bytes_eq word (codes "step") then Some Step else None
+call_in (word ∷ []) = if bytes_eq word (codes "step") then Some Step else (if bytes_eq word (codes "check") then Some Check else None)
 call_in (word ∷ n ∷ []) = numbered_call word (number_of 4294967295 n)
 call_in _ = None
 
@@ -27,6 +27,7 @@ call_of words = call_in (map string_bytes words)
 abbrev pub reads : Option Call → Bool
 reads None = false
 reads (Some Step) = true
+reads (Some Check) = true
 reads (Some (Gen n)) = false
 reads (Some (Load n)) = false
 
@@ -34,5 +35,14 @@ reads (Some (Load n)) = false
 abbrev pub runs : Option Call → Bool
 runs None = false
 runs (Some Step) = true
+runs (Some Check) = false
 runs (Some (Gen n)) = false
 runs (Some (Load n)) = true
+
+-- whether a journal is read
+abbrev pub checks : Option Call → Bool
+checks None = false
+checks (Some Step) = false
+checks (Some Check) = true
+checks (Some (Gen n)) = false
+checks (Some (Load n)) = false

@@ -1,16 +1,23 @@
 -- What the top call's answer means.
-use Rattle.std.specs.Prelude.{ℕ, ◌≡◌, ◌≢◌, ◌≤◌, List, [], Option, Some, None, IfSome, length}
+use Rattle.std.specs.Io.KnownBytes.{Appends, Keeps}
+use Rattle.std.specs.Prelude.{ℕ, ◌≡◌, ◌≢◌, ◌≤◌, ◌⊎◌, List, Option, Some, None, IfSome, Result, Ok, Err, length}
+use Rattle.tp_check.specs.Print as verdicts
+use Rattle.tp_check.specs.Verdicts.{IsVerdict}
+use Rattle.tp_check.specs.declared.verdict.Verdict.{Verdict}
+use Rattle.tp_check.specs.declared.verdict.Verdict.TheVariants.{Run, No}
 use Rattle.tp_gen.specs.Generator.{numbered_script}
+use Rattle.tp_outside.specs.Bytes.{AppendsFront}
 use Rattle.tp_outside.specs.Causes.{Rose}
 use Rattle.tp_print.specs.Report.{report_text}
 use Rattle.tp_print.specs.Summary.{summary_text}
 use Rattle.tp_rules.specs.declared.event.Entry.{Entry}
+use Rattle.tp_run.specs.Both.{IsTextOfBoth, IsUnread, checked_of}
 use Rattle.tp_run.specs.Status.{status_of}
 use Rattle.tp_run.specs.Texts.{INPUT_MOST, IsTextOf, cause_of}
 use Rattle.tp_run.specs.declared.call.Call.{Call}
-use Rattle.tp_run.specs.declared.call.Call.TheVariants.{Step, Gen, Load}
+use Rattle.tp_run.specs.declared.call.Call.TheVariants.{Step, Check, Gen, Load}
 use Rattle.tp_run.specs.declared.finished.Cause.{Cause}
-use Rattle.tp_run.specs.declared.finished.Cause.TheVariants.{Words, Script, Input, Read, Write, Memory}
+use Rattle.tp_run.specs.declared.finished.Cause.TheVariants.{Words, Script, Journal, Input, Read, Write, Memory, Verdict as Found}
 use Rattle.tp_script.specs.Print.{text_of}
 use Rattle.tp_script.specs.declared.script.Script.{Script as ScriptValue}
 
@@ -33,39 +40,81 @@ IsRefusedFor left (Script fault) = IsCauseOf left (Script fault)
 IsRefusedFor left (Input got limit) = IsCauseOf left (Input got limit)
 IsRefusedFor left Words = ⊥
 IsRefusedFor left Write = ⊥
+IsRefusedFor left (Journal fault) = ⊥
+IsRefusedFor left (Found entry why) = ⊥
 IsRefusedFor left Read = Unit {0}
 IsRefusedFor left Memory = Unit {0}
+
+-- why a text gives no script and journal: the cause of its refusal, where the source tells it, a failed read, or want of memory
+abbrev pub IsUnchecked : Option (List ℕ) → Cause → Type 0
+IsUnchecked left cause = IsUnread (λ why. IfSome left (λ text. checked_of text ≡ Err why)) cause
 
 -- what a count of faults says of an answer: it rose where the answer is that fault, and else it is as before
 pub record IsFaultOf (fault : Cause) (before now : ℕ) (cause : Option Cause) : Type 0 where
   pub rose : cause ≡ Some fault → Rose before now
   pub kept : cause ≢ Some fault → now ≡ before
 
--- the script of a call: the one whose text stands in the source, or that of the number
-abbrev pub IsScriptOf : Option Call → Option (List ℕ) → ScriptValue → Type 0
-IsScriptOf None left script = ⊥
-IsScriptOf (Some Step) left script = IsSaidBy left (Some script)
-IsScriptOf (Some (Gen n)) left script = script ≡ numbered_script n
-IsScriptOf (Some (Load n)) left script = script ≡ numbered_script n
+-- the script of a call: the one whose text stands in the source, or that of the number; of a check with the journal behind it
+abbrev pub IsScriptOf : Option Call → Option (List ℕ) → ScriptValue → List Entry → Type 0
+IsScriptOf None left script journal = ⊥
+IsScriptOf (Some Step) left script journal = IsSaidBy left (Some script)
+IsScriptOf (Some Check) left script journal = IfSome left (λ text. IsTextOfBoth text script journal)
+IsScriptOf (Some (Gen n)) left script journal = script ≡ numbered_script n
+IsScriptOf (Some (Load n)) left script journal = script ≡ numbered_script n
 
 -- why a call has no script
 abbrev pub IsRefusal : Option Call → Option (List ℕ) → Cause → Type 0
 IsRefusal None left cause = cause ≡ Words
 IsRefusal (Some Step) left cause = IsRefusedFor left cause
+IsRefusal (Some Check) left cause = IsUnchecked left cause
 IsRefusal (Some (Gen n)) left cause = cause ≡ Memory
 IsRefusal (Some (Load n)) left cause = cause ≡ Memory
 
--- what a call writes of its script and journal
-abbrev pub output_of : Option Call → ScriptValue → List Entry → List ℕ
-output_of None script journal = []
-output_of (Some Step) script journal = report_text script journal
-output_of (Some (Gen n)) script journal = text_of script
-output_of (Some (Load n)) script journal = summary_text n script journal
+-- a verdict as an answer: a run is none
+abbrev pub answer_of : Verdict → Option Cause
+answer_of (Run entries) = None
+answer_of (No entry why) = Some (Found entry why)
+
+-- a verdict of the journal, and the answer that says it
+pub record IsFinding (script : ScriptValue) (journal : List Entry) (answer : Option Cause) (verdict : Verdict) : Type 0 where
+  pub right : IsVerdict script journal verdict
+  pub said : answer ≡ answer_of verdict
+
+-- what a call with its script and journal answers and writes, where no fault and no want of memory disturbs it
+abbrev pub IsAnswer : Option Call → ScriptValue → List Entry → Option Cause → List ℕ → Type 0
+IsAnswer None script journal answer output = ⊥
+IsAnswer (Some Step) script journal answer output = (answer ≡ None) × (output ≡ report_text script journal)
+IsAnswer (Some Check) script journal answer output = (verdict : Verdict) × IsFinding script journal answer verdict × (output ≡ verdicts.text_of verdict)
+IsAnswer (Some (Gen n)) script journal answer output = (answer ≡ None) × (output ≡ text_of script)
+IsAnswer (Some (Load n)) script journal answer output = (answer ≡ None) × (output ≡ summary_text n script journal)
+
+-- the call answered so, and its output was written
+pub record IsDone (call : Option Call) (script : ScriptValue) (journal : List Entry) (answer : Option Cause) (before now : Option (List ℕ)) : Type 0 where
+  pub output : List ℕ
+  pub right : IsAnswer call script journal answer output
+  pub written : Appends before now output
+
+-- some front of the call's output was written
+pub record IsBegun (call : Option Call) (script : ScriptValue) (journal : List Entry) (before now : Option (List ℕ)) : Type 0 where
+  pub answer : Option Cause
+  pub output : List ℕ
+  pub right : IsAnswer call script journal answer output
+  pub front : AppendsFront before now output
+
+-- of the call's output some front was written, or nothing was
+abbrev pub HasFront : Option Call → ScriptValue → List Entry → Option (List ℕ) → Option (List ℕ) → Type 0
+HasFront call script journal before now = Keeps before now ⊎ IsBegun call script journal before now
+
+-- the answer to a text that is to be checked: the cause of its refusal, or else the verdict
+abbrev pub IsDueFor : Result (ScriptValue × List Entry) Cause → Option Cause → Type 0
+IsDueFor (Err cause) answer = answer ≡ Some cause
+IsDueFor (Ok (script, journal)) answer = (verdict : Verdict) × IsFinding script journal answer verdict
 
 -- the answer of a call that no fault and no want of memory disturbs, where the source tells its text
 abbrev pub IsDue : Option Call → Option (List ℕ) → Option Cause → Type 0
 IsDue None left answer = answer ≡ Some Words
 IsDue (Some Step) left answer = IfSome left (λ text. answer ≡ cause_of text)
+IsDue (Some Check) left answer = IfSome left (λ text. IsDueFor (checked_of text) answer)
 IsDue (Some (Gen n)) left answer = answer ≡ None
 IsDue (Some (Load n)) left answer = answer ≡ None
 
@@ -77,9 +126,27 @@ pub record IsScriptText (left : Option (List ℕ)) : Type 0 where
   pub short : length text ≤ INPUT_MOST
   pub said : IsTextOf text script
 
+-- the source tells the text of a script and a journal, and it isn't too long
+pub record IsTextToCheck (left : Option (List ℕ)) : Type 0 where
+  pub text : List ℕ
+  pub script : ScriptValue
+  pub journal : List Entry
+  pub told : left ≡ Some text
+  pub short : length text ≤ INPUT_MOST
+  pub said : IsTextOfBoth text script journal
+
 -- the input serves a call: one that isn't read always does
 abbrev pub IsInputFor : Option Call → Option (List ℕ) → Type 0
 IsInputFor None left = ⊥
 IsInputFor (Some Step) left = IsScriptText left
+IsInputFor (Some Check) left = IsTextToCheck left
 IsInputFor (Some (Gen n)) left = Unit {0}
 IsInputFor (Some (Load n)) left = Unit {0}
+
+-- the call is served: without a cause, or a check by a verdict
+abbrev pub IsServed : Option Call → Option Cause → Type 0
+IsServed None answer = ⊥
+IsServed (Some Step) answer = answer ≡ None
+IsServed (Some Check) answer = (verdict : Verdict) × (answer ≡ answer_of verdict)
+IsServed (Some (Gen n)) answer = answer ≡ None
+IsServed (Some (Load n)) answer = answer ≡ None

@@ -8,6 +8,8 @@ use tp_text::number;
 pub enum Call {
     /// `step`: to run the script that is the input, one step at a time.
     Step,
+    /// `check`: to check the journal that stands behind a script in the input.
+    Check,
     /// `gen N`: to print the script of a number.
     Gen(u32),
     /// `load N`: to run the script of a number as `step` does, and to count.
@@ -23,6 +25,8 @@ pub fn call_of(words: &[String]) -> Option<Call>
         [word] => {
             if is_word(word, "step") {
                 Some(Call::Step)
+            } else if is_word(word, "check") {
+                Some(Call::Check)
             } else {
                 None
             }

@@ -1,6 +1,7 @@
 //! The program's words, from the bytes of the input to those of the output.
 #![tactic(auto)]
 
+mod both;
 mod call;
 mod finished;
 mod plain;

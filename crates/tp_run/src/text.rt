@@ -64,7 +64,7 @@ fn ended(script: Script, lines: &mut Lines) -> Result<Script, ScriptError>
 }
 
 // Whether nothing is left.
-fn is_end(lines: &mut Lines) -> bool
+pub(crate) fn is_end(lines: &mut Lines) -> bool
     ensures { result ≡ is_end (lines_of lines.old.left) }
 {
     match lines.next_line() {
