@@ -14,3 +14,5 @@ pub mod NewOutputs
 pub mod Turned
 pub mod Steps
 pub mod Ledgers
+pub mod Inboxes
+pub mod InboxRuns

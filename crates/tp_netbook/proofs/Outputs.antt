@@ -92,10 +92,10 @@ sent_few script accepted (e ∷ older) history =
 
 -- what an event leaves of an output, by its fate
 
-abbrev kept_as : Fate → Parcel → ℕ → Output
+abbrev pub kept_as : Fate → Parcel → ℕ → Output
 kept_as fate p left = record { entry = p.entry; place = p.place; to = p.message.to; lost = loses fate; left = left }
 
-one_more : (fate : Fate) (event : Event) (p : Parcel) (left d d' : ℕ) (lost : Bool) → d' ≡ cond (is_delivery_of p.entry p.place event) (suc d) d
+pub one_more : (fate : Fate) (event : Event) (p : Parcel) (left d d' : ℕ) (lost : Bool) → d' ≡ cond (is_delivery_of p.entry p.place event) (suc d) d
     → left_by fate d' (is_loss_of p.entry p.place event || lost) ≡ cond (is_named event (kept_as fate p left)) (left_by fate d lost - 1) (left_by fate d lost)
 one_more Lost (Deliver entry place) p left d d' lost count = refl
 one_more (Times n) (Deliver entry place) p left d d' lost count = by ((entry == p.entry) && (place == p.place)) count
@@ -113,6 +113,14 @@ one_more (Times n) (Dropped entry place) p left d d' lost count = omega (arith, 
 one_more Lost (OfItself inner) p left d d' lost count = refl
 one_more (Times n) (OfItself inner) p left d d' lost count = omega (arith, count)
 
+-- how often an output was delivered, by one entry more
+pub delivered_more : (older : List Entry) (e : Entry) (entry place : ℕ)
+    → deliveries (e ∷ older) entry place ≡ cond (is_delivery_of entry place e.event) (suc (deliveries older entry place)) (deliveries older entry place)
+delivered_more older e entry place = elim (cases_Bool (is_delivery_of entry place e.event)) [
+  | inl t ↦ count_yes (λ (x : Entry). is_delivery_of entry place x.event) e older t ∙ sym (cond-true (is_delivery_of entry place e.event) _ _ t)
+  | inr f ↦ count_no (λ (x : Entry). is_delivery_of entry place x.event) e older f ∙ sym (cond-false (is_delivery_of entry place e.event) _ _ f)
+]
+
 module _ (script : Script) (older : List Entry) (e : Entry) where
   -- an output sent before is the one that a netbook has of it, after the event has passed
   pub passed_is : (p : Parcel) → IsIn p (sent older) → passed e.event (output_of script older p) ≡ output_of script (e ∷ older) p
@@ -121,19 +129,12 @@ module _ (script : Script) (older : List Entry) (e : Entry) where
       let fate : fate_of script (e ∷ older) p ≡ fate_of script older p = fate_stays script older e p h in
       sym (λ i. record { entry = p.entry; place = p.place; to = p.message.to; lost = loses (fate i); left = left_is fate i })
     where
-      count : deliveries (e ∷ older) p.entry p.place
-          ≡ cond (is_delivery_of p.entry p.place e.event) (suc (deliveries older p.entry p.place)) (deliveries older p.entry p.place)
-      count = elim (cases_Bool (is_delivery_of p.entry p.place e.event)) [
-        | inl t ↦ count_yes (λ (x : Entry). is_delivery_of p.entry p.place x.event) e older t ∙ sym (cond-true (is_delivery_of p.entry p.place e.event) _ _ t)
-        | inr f ↦ count_no (λ (x : Entry). is_delivery_of p.entry p.place x.event) e older f ∙ sym (cond-false (is_delivery_of p.entry p.place e.event) _ _ f)
-      ]
-
       left_is : fate_of script (e ∷ older) p ≡ fate_of script older p
           → deliveries_left script (e ∷ older) p ≡ cond (is_named e.event (output_of script older p)) (deliveries_left script older p - 1) (deliveries_left script older p)
       left_is fate =
           ap (λ (f : Fate). left_by f (deliveries (e ∷ older) p.entry p.place) (was_lost (e ∷ older) p.entry p.place)) fate
           ∙ one_more (fate_of script older p) e.event p (deliveries_left script older p) (deliveries older p.entry p.place) (deliveries (e ∷ older) p.entry p.place)
-          (was_lost older p.entry p.place) count
+          (was_lost older p.entry p.place) (delivered_more older e p.entry p.place)
 
   pub left_at_first : IsFreeHistory script (e ∷ older) → (p : Parcel) → p.entry ≡ suc (length older)
       → deliveries_left script (e ∷ older) p ≡ left_by (fate_of script (e ∷ older) p) 0 false

@@ -4,3 +4,4 @@ pub mod Routes
 pub mod Outputs
 pub mod Fates
 pub mod Ledger
+pub mod Inbox

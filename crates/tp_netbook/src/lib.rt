@@ -4,6 +4,7 @@
 
 mod deliveries;
 mod fate;
+mod inbox;
 mod ledger;
 mod line;
 mod netbook;
@@ -12,6 +13,7 @@ mod roster;
 mod route;
 mod watch;
 
+pub use inbox::Inbox;
 pub use ledger::Ledger;
 pub use netbook::Netbook;
 pub use roster::place_of;
