@@ -1,6 +1,7 @@
 -- What the home's acknowledgements say of who acknowledged. Used for the fast path and for the majority attached.
 use Rattle.std.proofs.Common.{◌≡◌, ℕ, ◌≤◌, inl, inr, true, List, length, Option, Some, None, refl, sym, ap, ◌∙◌, subst, arith}
 use Rattle.tp_base.proofs.Members.{in_get}
+use Rattle.tp_base.specs.Tables.{kept_at}
 use Rattle.tp_base.specs.declared.names.CommandId.{CommandId}
 use Rattle.tp_base.specs.declared.names.Made.{Made}
 use Rattle.tp_base.specs.declared.names.Made.TheVariants.{Proposal, Recovery}
@@ -10,7 +11,6 @@ use Rattle.tp_rules.proofs.FitChoices.{is_there, present_counted}
 use Rattle.tp_rules.proofs.SendsOfProcess.{stamp}
 use Rattle.tp_rules.proofs.UpTo.{get_there}
 use Rattle.tp_rules.specs.Sheet.{Proposed, is_made_by_proposal, is_proposal, made_of, stamp_proposed}
-use Rattle.tp_rules.specs.Tables.{kept_at}
 use Rattle.tp_topology.specs.Counting.{count_up_to}
 use Rattle.tp_topology.specs.Shape.{fast_size}
 use Rattle.tp_wire.specs.declared.message.Body.TheVariants.{MPropose, MProposeAck}

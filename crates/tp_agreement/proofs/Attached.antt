@@ -3,6 +3,7 @@ use Rattle.std.proofs.Common.{◌≡◌, ◌≢◌, ℕ, ◌≤◌, inl, inr, Bo
 use Rattle.std.proofs.lemmas.Bool.{and_parts, false_from_ne_true, le-leb}
 use Rattle.tp_base.specs.Limits.{IsFrom}
 use Rattle.tp_base.specs.Lists.{IsIn}
+use Rattle.tp_base.specs.Tables.{kept_at}
 use Rattle.tp_base.specs.declared.names.Made.{Made}
 use Rattle.tp_base.specs.declared.names.Made.TheVariants.{Proposal}
 use Rattle.tp_choice.specs.Choosing.{IsChosen, accepted, of_all, of_members}
@@ -10,7 +11,6 @@ use Rattle.tp_choice.specs.declared.answer.RecoveryAnswer.{RecoveryAnswer}
 use Rattle.tp_quorum.specs.Choice.{present, greatest}
 use Rattle.tp_rules.proofs.FitChoices.{is_there}
 use Rattle.tp_rules.specs.Sheet.{Proposed}
-use Rattle.tp_rules.specs.Tables.{kept_at}
 use Rattle.tp_topology.proofs.Meetings.{both, shared, share}
 use Rattle.tp_topology.proofs.Passing.{count_more}
 use Rattle.tp_agreement.proofs.Sizes.{fast_is_majority, recovery_is_majority, recovery_meets_fast}

@@ -1,13 +1,13 @@
 -- The fast path against recovery: where the home decided fast, no other stamp is put. Used for one decision.
 use Rattle.std.proofs.Common.{◌≡◌, ℕ, ◌≤◌, inl, inr, Bool, true, false, List, Option, Some, refl, sym, ap, ◌∙◌, subst, arith}
 use Rattle.std.proofs.lemmas.Bool.{cases_lt, false_from_ne_true, leb-true}
+use Rattle.tp_base.specs.Tables.{kept_at}
 use Rattle.tp_base.specs.declared.names.Made.TheVariants.{Proposal}
 use Rattle.tp_choice.specs.Choosing.{IsChosen, accepted, of_all, of_members}
 use Rattle.tp_choice.specs.declared.answer.RecoveryAnswer.{RecoveryAnswer}
 use Rattle.tp_quorum.specs.Choice.{present, greatest, count_of}
 use Rattle.tp_rules.proofs.Fit.{site_is, site_known}
 use Rattle.tp_rules.proofs.FitChoices.{is_there}
-use Rattle.tp_rules.specs.Tables.{kept_at}
 use Rattle.tp_topology.proofs.Meetings.{shared}
 use Rattle.tp_agreement.proofs.Sizes.{recovery_meets_fast}
 use Rattle.tp_topology.specs.Counting.{count_up_to}

@@ -2,13 +2,13 @@
 use Rattle.std.proofs.Common.{◌≡◌, ℕ, zero, suc, ◌<◌, ◌≤◌, inl, inr, Bool, true, List, length, Some, refl, sym, ap, ◌∙◌, arith}
 use Rattle.std.proofs.lemmas.Bool.{cases_lt}
 use Rattle.tp_base.specs.Lists.{IsIn}
+use Rattle.tp_base.specs.Tables.{nth}
 use Rattle.tp_choice.specs.Choosing.{accepted, of_all, of_members}
 use Rattle.tp_choice.specs.declared.answer.RecoveryAnswer.{RecoveryAnswer}
 use Rattle.tp_paxos.specs.Votes.{count_votes}
 use Rattle.tp_quorum.specs.Choice.{present}
 use Rattle.tp_rules.proofs.Fit.{site_is}
 use Rattle.tp_rules.proofs.SendsOfProcess.{stamp}
-use Rattle.tp_rules.specs.Tables.{nth}
 use Rattle.tp_agreement.proofs.Sizes.{recovery_meets_slow}
 use Rattle.tp_topology.specs.Shape.{slow_size}
 use Rattle.tp_wire.specs.declared.message.Body.TheVariants.{MConsensusAck}

@@ -35,12 +35,34 @@ get_set_same [] i x a e = absurd cc
 get_set_same (y ∷ ys) zero x a e = refl
 get_set_same (y ∷ ys) (suc i) x a e = get_set_same ys i x a e
 
+pub get_set_here : {X : Type 0} (xs : List X) (i : ℕ) (x : X) → i < length xs → slice_get (set xs i x) i ≡ Some x
+get_set_here [] i x lt = absurd (omega arith)
+get_set_here (y ∷ ys) zero x lt = refl
+get_set_here (y ∷ ys) (suc i) x lt = get_set_here ys i x (omega arith)
+
 pub get_set_other : {X : Type 0} (xs : List X) (i k : ℕ) (x : X) → k ≢ i → slice_get (set xs i x) k ≡ slice_get xs k
 get_set_other [] i k x apart = refl
 get_set_other (y ∷ ys) zero zero x apart = absurd (apart refl)
 get_set_other (y ∷ ys) zero (suc k) x apart = refl
 get_set_other (y ∷ ys) (suc i) zero x apart = refl
 get_set_other (y ∷ ys) (suc i) (suc k) x apart = get_set_other ys i k x (λ e. apart (ap (λ (n : ℕ). suc n) e))
+
+-- what stands at a place after a write: what was written, or what stood there
+pub get_set_cases : {X : Type 0} (xs : List X) (i j : ℕ) (x y : X) → slice_get (set xs i x) j ≡ Some y
+    → ((j ≡ i) × (x ≡ y)) ⊎ (slice_get xs j ≡ Some y)
+get_set_cases [] i j x y e = inr e
+get_set_cases (z ∷ zs) zero zero x y e = inl (refl, cc)
+get_set_cases (z ∷ zs) zero (suc j) x y e = inr e
+get_set_cases (z ∷ zs) (suc i) zero x y e = inr e
+get_set_cases (z ∷ zs) (suc i) (suc j) x y e = elim (get_set_cases zs i j x y e) [
+  | inl new ↦ inl (ap (λ (n : ℕ). suc n) new.0, new.1)
+  | inr old ↦ inr old
+]
+
+pub got_within : {X : Type 0} (xs : List X) (i : ℕ) (x : X) → slice_get xs i ≡ Some x → i < length xs
+got_within [] i x e = absurd cc
+got_within (y ∷ ys) zero x e = omega arith
+got_within (y ∷ ys) (suc i) x e = let rest = got_within ys i x e in omega arith
 
 -- induction at the end of a list
 reverse_ind : {X : Type 0} (P : List X → Type 0) → P [] → ((xs : List X) (x : X) → P xs → P (xs ++ x ∷ [])) → (ys : List X) → P (reverse ys)

@@ -7,3 +7,4 @@ pub mod Orders
 pub mod Prefixes
 pub mod Reading
 pub mod SameNames
+pub mod Tables

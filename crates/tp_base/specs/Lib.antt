@@ -4,3 +4,4 @@ pub mod Names
 pub mod Partition
 pub mod Promises
 pub mod Limits
+pub mod Tables

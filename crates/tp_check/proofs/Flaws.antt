@@ -4,6 +4,7 @@ use Rattle.std.proofs.lemmas.Bool.{cases_Bool, cond-false, cond-true}
 use Rattle.std.specs.Prelude.{◌↔◌, IsTrue, reverse}
 use Rattle.tp_base.proofs.SameNames.{same_name_is, same_name_refl}
 use Rattle.tp_base.specs.Names.{same_name}
+use Rattle.tp_base.specs.Tables.{nth}
 use Rattle.tp_base.specs.declared.names.ActorName.{ActorName}
 use Rattle.tp_base.specs.declared.names.ActorName.TheVariants.{Process, Executor, Session}
 use Rattle.tp_check.specs.Causes.{DifferFirst, HasFlaw, IsBarred, IsCause, IsForAnother, IsUnsent, order}
@@ -18,7 +19,6 @@ use Rattle.tp_rules.specs.Journal.{acts, identity_in, is_known, is_live, output_
 use Rattle.tp_rules.specs.Plan.{due_of}
 use Rattle.tp_rules.specs.Rules.{MayMake}
 use Rattle.tp_rules.specs.Runs.{FollowsLine, FollowsPlan, IsFor, IsLegal, MayHappen, outputs_in}
-use Rattle.tp_rules.specs.Tables.{nth}
 use Rattle.tp_rules.specs.declared.event.Entry.{Entry}
 use Rattle.tp_rules.specs.declared.event.Event.{Event}
 use Rattle.tp_rules.specs.declared.event.Event.TheVariants.{Deliver, Dropped, Inner as OfItself}

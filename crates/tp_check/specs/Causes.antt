@@ -1,12 +1,12 @@
 -- Why an entry is illegal after those before it.
 use Rattle.std.specs.Prelude.{ℕ, ◌≡◌, ◌≢◌, ◌-◌, ◌<◌, false, List, Some, None, take}
+use Rattle.tp_base.specs.Tables.{nth}
 use Rattle.tp_base.specs.declared.names.ActorName.{ActorName}
 use Rattle.tp_check.specs.declared.verdict.EntryCause.{EntryCause}
 use Rattle.tp_check.specs.declared.verdict.EntryCause.TheVariants.{Stranger, Dead, Message as NoMessage, Addressee, Plan, NotEnabled, Outputs}
 use Rattle.tp_rules.specs.Journal.{acts, identity_in, is_known, is_live, output_at}
 use Rattle.tp_rules.specs.Rules.{MayMake}
 use Rattle.tp_rules.specs.Runs.{FollowsPlan, outputs_in}
-use Rattle.tp_rules.specs.Tables.{nth}
 use Rattle.tp_rules.specs.declared.event.Entry.{Entry}
 use Rattle.tp_rules.specs.declared.event.Event.{Event}
 use Rattle.tp_rules.specs.declared.event.Event.TheVariants.{Deliver, Dropped, Inner as OfItself}

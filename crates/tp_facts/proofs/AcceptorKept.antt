@@ -4,6 +4,8 @@ use Rattle.std.proofs.lemmas.List.{length-replicate}
 use Rattle.std.proofs.Common.{replicate, ◌≡◌, ℕ, ◌≤◌, inl, inr, Bool, true, false, List, ◌∷◌, Option, Some, None, refl, ap, ◌∙◌, subst, arith}
 use Rattle.std.proofs.lemmas.Bool.{cases_eq}
 use Rattle.std.specs.Prelude.{unwrap_or}
+use Rattle.tp_base.proofs.Tables.{length_with}
+use Rattle.tp_base.specs.Tables.{with_nth}
 use Rattle.tp_base.specs.declared.names.CommandId.{CommandId}
 use Rattle.tp_base.specs.declared.names.Site.{Site}
 use Rattle.tp_ops.specs.declared.command.Command.{Command}
@@ -13,14 +15,12 @@ use Rattle.tp_rules.proofs.SendsOfProcess.{stamp}
 use Rattle.tp_rules.specs.Acts.{Act, Took}
 use Rattle.tp_rules.specs.Addresses.{rank_of}
 use Rattle.tp_rules.specs.Sheet.{Proposed, QuorumRule, Sheet}
-use Rattle.tp_rules.specs.Tables.{with_nth}
 use Rattle.tp_wire.specs.declared.message.Body.{Body}
 use Rattle.tp_wire.specs.declared.message.Body.TheVariants.{MPropose, MConsensus}
 use Rattle.tp_wire.specs.declared.message.Message.{Message}
 use Rattle.tp_facts.proofs.Facts.{HasBallot, IsGenuine, KeepsCommand, HasFloor, IsAcceptor, IsSized}
 use Rattle.tp_facts.proofs.Growing.{acceptor_more, floor_more, taken_more}
 use Rattle.tp_facts.proofs.StepCases.{SheetStep, submits, submits_and_acknowledges, proposes, keeps_payload, counts_acknowledgement, decides_fast, puts_slow, accepts, counts_vote, decides_by_votes, knows_already, learns, proposes_and_answers_recovery, answers_recovery, counts_answer, puts_recovered, starts_recovery}
-use Rattle.tp_facts.proofs.Tables.{length_with, length_voted}
 use Rattle.tp_choice.specs.declared.answer.RecoveryAnswer.{RecoveryAnswer}
 
 -- what is asked of a message's body holds of the body that it is
@@ -133,7 +133,7 @@ module _ (s : QuorumRule) (me : Site) (of : CommandId → Command) (acts : List 
     stamps = h.stamps;
     acknowledgements = h.acknowledgements;
     answered = h.answered;
-    voted = length_voted put.votes rank ∙ h.voted;
+    voted = length_with put.votes rank true ∙ h.voted;
   }
 
   answer_placed : (old : Sheet) (place : ℕ) (a : RecoveryAnswer)

@@ -6,6 +6,7 @@ use Rattle.std.proofs.lemmas.Bool.{eqb-true}
 use Rattle.std.proofs.lemmas.Bool.{cond-true, cond_both, eq-eqb}
 use Rattle.std.specs.Prelude.{slice_get, ◌==◌}
 use Rattle.std.specs.Prelude.{◌==◌}
+use Rattle.tp_base.proofs.Ends.{got_within}
 use Rattle.tp_base.proofs.Members.{get_in}
 use Rattle.tp_base.proofs.SameNames.{same_id_is, same_id_refl}
 use Rattle.tp_base.specs.Lists.{IsIn}
@@ -23,7 +24,7 @@ use Rattle.tp_script.specs.Accepted.{IsAccepted, commands_by}
 use Rattle.tp_script.specs.declared.script.Script.{Script}
 use Rattle.tp_topology.specs.Counting.{up_to}
 use Rattle.tp_facts.proofs.RunFacts.{NamesCommands}
-use Rattle.tp_facts.proofs.Tables.{any_in, find_there, got_within}
+use Rattle.tp_facts.proofs.Tables.{any_in, find_there}
 
 -- a command that has the place of its number
 number_is : (cs : List Command) (i : ℕ) (c : Command) → map (λ c. c.id.number) cs ≡ up_to (length cs)

@@ -7,6 +7,7 @@ use Rattle.std.specs.Prelude.{◌==◌}
 use Rattle.tp_base.proofs.Each.{each_in}
 use Rattle.tp_base.specs.Lists.{Each, IsIn}
 use Rattle.tp_base.specs.Lists.{IsIn}
+use Rattle.tp_base.specs.Tables.{nth}
 use Rattle.tp_base.specs.declared.names.ActorName.{ActorName}
 use Rattle.tp_rules.proofs.ActsMore.{acts_step, delivered_act}
 use Rattle.tp_rules.proofs.UpTo.{nth_in}
@@ -16,7 +17,6 @@ use Rattle.tp_rules.specs.Journal.{act_of, acts, IsSent}
 use Rattle.tp_rules.specs.Journal.{act_of, acts, output_at, IsSent}
 use Rattle.tp_rules.specs.Runs.{IsFor, IsFreeHistory, MayHappen}
 use Rattle.tp_rules.specs.Runs.{IsFreeHistory}
-use Rattle.tp_rules.specs.Tables.{nth}
 use Rattle.tp_rules.specs.declared.event.Entry.{Entry}
 use Rattle.tp_rules.specs.declared.event.Event.TheVariants.{Deliver, Dropped, Inner as OfItself}
 use Rattle.tp_rules.specs.declared.event.Event.{Event}

@@ -3,6 +3,8 @@
 use Rattle.std.proofs.Common.{◌≡◌, ℕ, inl, inr, true, false, List, [], ◌∷◌, length, Option, Some, None, is_some, refl, sym, ap, ◌∙◌, subst, arith}
 use Rattle.std.proofs.lemmas.Bool.{and_parts, eqb-false, eqb-true, both_ways}
 use Rattle.std.specs.Prelude.{unwrap_or, ◌==◌}
+use Rattle.tp_base.proofs.Tables.{kept_here, kept_with, some_stays}
+use Rattle.tp_base.specs.Tables.{kept_at, with_nth}
 use Rattle.tp_base.specs.declared.names.CommandId.{CommandId}
 use Rattle.tp_base.specs.declared.names.Site.{Site}
 use Rattle.tp_ops.specs.declared.command.Command.{Command}
@@ -11,14 +13,13 @@ use Rattle.tp_rules.proofs.SendsOfProcess.{stamp}
 use Rattle.tp_rules.specs.Acts.{Act, Took}
 use Rattle.tp_rules.specs.Addresses.{rank_of}
 use Rattle.tp_rules.specs.Sheet.{Proposed, QuorumRule, Sheet, is_made_by_proposal, is_member}
-use Rattle.tp_rules.specs.Tables.{kept_at, with_nth}
 use Rattle.tp_wire.specs.declared.message.Body.TheVariants.{MProposeAck}
 use Rattle.tp_wire.specs.declared.message.Message.{Message}
 use Rattle.tp_facts.proofs.AcceptorKept.{carried, command_carried}
 use Rattle.tp_facts.proofs.Facts.{IsHere, IsGenuine, IsFast, IsGathered, KeepsCommand}
 use Rattle.tp_facts.proofs.Growing.{acknowledgement_more, gathered_more}
 use Rattle.tp_facts.proofs.StepCases.{SheetStep, submits, submits_and_acknowledges, proposes, counts_acknowledgement, decides_fast, puts_slow, decides_by_votes, learns, proposes_and_answers_recovery}
-use Rattle.tp_facts.proofs.Tables.{kept_here, kept_with, present_with, some_stays}
+use Rattle.tp_facts.proofs.Tables.{present_with}
 use Rattle.tp_facts.proofs.RuleTests.{CanAcknowledge}
 
 module _ (s : QuorumRule) (me : Site) (of : CommandId → Command) (acts : List Act) where

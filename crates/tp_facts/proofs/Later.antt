@@ -4,7 +4,9 @@ use Rattle.std.proofs.Common.{◌≡◌, ℕ, ◌<◌, ◌≤◌, ◌⊎◌, inl
 use Rattle.std.proofs.lemmas.Bool.{and_parts, cond_both}
 use Rattle.std.specs.List.{list_all}
 use Rattle.tp_base.proofs.Each.{each_append, each_weaker}
+use Rattle.tp_base.proofs.Tables.{kept_stays}
 use Rattle.tp_base.specs.Lists.{Each}
+use Rattle.tp_base.specs.Tables.{kept_at}
 use Rattle.tp_base.specs.declared.names.CommandId.{CommandId}
 use Rattle.tp_base.specs.declared.names.Made.{Made}
 use Rattle.tp_base.specs.declared.names.Site.{Site}
@@ -15,7 +17,6 @@ use Rattle.tp_quorum.specs.Choice.{present, greatest}
 use Rattle.tp_rules.specs.Acts.{Act}
 use Rattle.tp_rules.specs.Addresses.{accessed}
 use Rattle.tp_rules.specs.Sheet.{Proposed, QuorumRule, Sheet, final_stamp, greatest_known, stamp_of}
-use Rattle.tp_rules.specs.Tables.{kept_at}
 use Rattle.tp_topology.specs.Shape.{fast_size}
 use Rattle.tp_wire.specs.declared.message.Body.{Body}
 use Rattle.tp_wire.specs.declared.message.Body.TheVariants.{MPropose, MProposeAck, MConsensus, MConsensusAck, MCommit, MRecAck, MCommitted}
@@ -25,7 +26,6 @@ use Rattle.tp_facts.proofs.AcceptorKept.{carried}
 use Rattle.tp_facts.proofs.Facts.{IsHere, IsGenuine, IsFast, IsFull, IsProposer, VotesOutside, PutsSame, IsAnswer, IsPut, IsLearned, IsTrue}
 use Rattle.tp_facts.proofs.Growing.{answer_more, taken_from_more, taken_more, was_sent_more}
 use Rattle.tp_facts.proofs.StepCases.{SheetStep, submits, submits_and_acknowledges, proposes, counts_acknowledgement, decides_fast, puts_slow, accepts, decides_by_votes, learns, proposes_and_answers_recovery, answers_recovery, puts_recovered}
-use Rattle.tp_facts.proofs.Tables.{kept_stays}
 
 -- a later sheet of the same command
 pub record Later (s : QuorumRule) (old new : Sheet) : Type 0 where

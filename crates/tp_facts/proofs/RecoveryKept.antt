@@ -2,7 +2,9 @@
 -- Used for the invariant of a process.
 use Rattle.std.proofs.Common.{◌≡◌, ℕ, ◌+◌, ◌<◌, inl, inr, Bool, true, false, List, ◌∷◌, ◌++◌, max, Option, Some, None, is_some, refl, sym, ap, ◌∙◌, subst, arith}
 use Rattle.tp_base.proofs.Members.{in_left, map_in}
+use Rattle.tp_base.proofs.Tables.{kept_replicate, kept_with, nth_replicate}
 use Rattle.tp_base.specs.Lists.{IsIn}
+use Rattle.tp_base.specs.Tables.{with_nth}
 use Rattle.tp_base.specs.declared.names.ActorName.{ActorName}
 use Rattle.tp_base.specs.declared.names.ActorName.TheVariants.{Process}
 use Rattle.tp_base.specs.declared.names.CommandId.{CommandId}
@@ -19,7 +21,6 @@ use Rattle.tp_rules.specs.Acts.{Act, Took}
 use Rattle.tp_rules.specs.Addresses.{message, processes_of, rank_of, site}
 use Rattle.tp_rules.specs.Process.{put_to_vote}
 use Rattle.tp_rules.specs.Sheet.{QuorumRule, Sheet, is_member}
-use Rattle.tp_rules.specs.Tables.{with_nth}
 use Rattle.tp_topology.specs.Ballots.{next_ballot}
 use Rattle.tp_topology.specs.Counting.{up_to}
 use Rattle.tp_wire.specs.declared.message.Body.TheVariants.{MConsensus, MConsensusAck, MRecAck}
@@ -28,7 +29,7 @@ use Rattle.tp_facts.proofs.RuleTests.{ballot_put}
 use Rattle.tp_facts.proofs.Facts.{IsHere, IsAnswerOf, IsProposer, IsPutter, KeepsCommand, WasSent}
 use Rattle.tp_facts.proofs.Growing.{answer_more, proposer_more, putter_more, taken_from_more, was_sent_more}
 use Rattle.tp_facts.proofs.StepCases.{SheetStep, puts_slow, counts_vote, decides_by_votes, counts_answer, puts_recovered, starts_recovery, recovery_answer}
-use Rattle.tp_facts.proofs.Tables.{kept_replicate, kept_with, nth_replicate, nth_voted}
+use Rattle.tp_facts.proofs.Tables.{nth_voted}
 
 module _ (s : QuorumRule) (me : Site) (of : CommandId → Command) (acts : List Act) where
   next_above : (own tried : ℕ) → max s.shape.replicas (max own tried) < next_ballot s.shape me.rank.0 own tried

@@ -4,10 +4,10 @@ use Rattle.std.proofs.Common.{◌≡◌, ◌≢◌, ℕ, ◌<◌, ◌≤◌, Boo
 use Rattle.std.proofs.lemmas.Bool.{and_parts, eqb-true, eqb-false, ltb-true, not-true}
 use Rattle.std.specs.Prelude.{is_none, is_some, nat_lt, not, ◌==◌, ◌&&◌}
 use Rattle.tp_base.proofs.Options.{none_of}
+use Rattle.tp_base.specs.Tables.{kept_at}
 use Rattle.tp_paxos.specs.Votes.{PutStamp, is_put_at}
 use Rattle.tp_quorum.specs.Choice.{present}
 use Rattle.tp_rules.specs.Sheet.{QuorumRule, Sheet, can_acknowledge, can_answer, is_fresh, is_made_by_proposal, is_member, stamp_of}
-use Rattle.tp_rules.specs.Tables.{kept_at}
 use Rattle.tp_topology.specs.Shape.{fast_size}
 
 -- the ballot at which a stamp is put, 0 where none is, and the stamp

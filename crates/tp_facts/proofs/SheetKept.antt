@@ -3,6 +3,8 @@
 use Rattle.std.proofs.Common.{Bool, ◌≡◌, ℕ, inl, inr, true, false, List, [], ◌∷◌, ◌++◌, length, Option, Some, None, refl, sym, ap, ◌∙◌, subst, arith}
 use Rattle.std.proofs.lemmas.Bool.{eqb-true}
 use Rattle.std.proofs.lemmas.List.{length-replicate}
+use Rattle.tp_base.proofs.Tables.{kept_replicate, kept_with, length_with}
+use Rattle.tp_base.specs.Tables.{kept_at}
 use Rattle.tp_base.specs.declared.names.CommandId.{CommandId}
 use Rattle.tp_base.specs.declared.names.Site.{Site}
 use Rattle.tp_choice.specs.declared.answer.RecoveryAnswer.{RecoveryAnswer}
@@ -13,7 +15,6 @@ use Rattle.tp_rules.proofs.SendsOfProcess.{stamp}
 use Rattle.tp_rules.specs.Acts.{Act}
 use Rattle.tp_rules.specs.Addresses.{rank_of}
 use Rattle.tp_rules.specs.Sheet.{QuorumRule, Sheet, blank}
-use Rattle.tp_rules.specs.Tables.{kept_at}
 use Rattle.tp_wire.specs.declared.message.Body.TheVariants.{MConsensus, MCommit}
 use Rattle.tp_wire.specs.declared.message.Message.{Message}
 use Rattle.tp_facts.proofs.AcceptorKept.{acceptor_kept, carried, command_kept, floor_kept, places_kept}
@@ -23,7 +24,7 @@ use Rattle.tp_facts.proofs.Growing.{acceptor_more, floor_more, gathered_more, pr
 use Rattle.tp_facts.proofs.Later.{Later, later_self, learned_more}
 use Rattle.tp_facts.proofs.RecoveryKept.{proposer_kept, putter_kept}
 use Rattle.tp_facts.proofs.StepCases.{SheetStep, decides_fast, decides_by_votes, learns}
-use Rattle.tp_facts.proofs.Tables.{kept_replicate, kept_with, length_voted, present_none}
+use Rattle.tp_facts.proofs.Tables.{present_none}
 
 module _ (s : QuorumRule) (me : Site) (of : CommandId → Command) (here : IsHere s me) where
   -- each stamp that is known was decided here, or taken from a commit
@@ -50,7 +51,7 @@ module _ (s : QuorumRule) (me : Site) (of : CommandId → Command) (here : IsHer
             (
               (voted_too (rank_of m.from) put).votes,
               enough,
-              length_voted put.votes (rank_of m.from) ∙ h.places.voted,
+              length_with put.votes (rank_of m.from) true ∙ h.places.voted,
               putter.voters,
             ),
           ),

@@ -9,6 +9,7 @@ use Rattle.tp_base.proofs.Members.{in_either}
 use Rattle.tp_base.proofs.SameNames.{same_name_not, same_name_refl}
 use Rattle.tp_base.specs.Lists.{IsIn}
 use Rattle.tp_base.specs.Names.{same_name}
+use Rattle.tp_base.specs.Tables.{nth}
 use Rattle.tp_base.specs.declared.names.ActorName.{ActorName}
 use Rattle.tp_base.specs.declared.names.ActorName.TheVariants.{Process, Executor, Session}
 use Rattle.tp_base.specs.declared.names.Site.{Site}
@@ -35,7 +36,6 @@ use Rattle.tp_rules.specs.Journal.{has_crashed, is_known, is_live, numbered, out
 use Rattle.tp_rules.specs.Pending.{sites_of}
 use Rattle.tp_rules.specs.Plan.{Fate, Lost, Times, deliveries_left, due_of, fate_by, fate_of, is_planned, left_by}
 use Rattle.tp_rules.specs.Runs.{FollowsFate, FollowsLine, FollowsPlan, IsFreeHistory, IsHistory, IsLost, IsRun}
-use Rattle.tp_rules.specs.Tables.{nth}
 use Rattle.tp_rules.specs.declared.event.Entry.{Entry}
 use Rattle.tp_rules.specs.declared.event.Event.{Event}
 use Rattle.tp_rules.specs.declared.event.Event.TheVariants.{Deliver, Dropped, Inner as OfItself}

@@ -1,7 +1,8 @@
 -- The operations of a command that are on one partition, and the answers of its partitions merged.
-use Rattle.std.specs.Prelude.{ℕ, zero, suc, ◌==◌, Bool, List, [], ◌∷◌, ◌++◌, cond, filter, Option, Some, None, slice_get, slice_set, unwrap_or}
+use Rattle.std.specs.Prelude.{ℕ, ◌==◌, Bool, List, [], ◌∷◌, ◌++◌, cond, filter, Option, unwrap_or}
 use Rattle.std.specs.List.{list_any}
 use Rattle.tp_base.specs.Partition.{partition_number}
+use Rattle.tp_base.specs.Tables.{kept_at}
 use Rattle.tp_ops.specs.declared.command.Command.{Command}
 use Rattle.tp_ops.specs.declared.operation.Answer.{Answer}
 use Rattle.tp_ops.specs.declared.operation.Op.{Op}
@@ -41,22 +42,6 @@ merged partitions (op ∷ ops) parts =
     let p = partition_number (key_of op) partitions in
     first_of (parts p) ++ merged partitions ops (λ q. cond (q == p) (rest_of (parts q)) (parts q))
 
--- a table of the answers kept of each partition, from 1
-
-abbrev pub answers_if_any : Option (Option (List Answer)) → Option (List Answer)
-answers_if_any None = None
-answers_if_any (Some kept) = kept
-
--- the answers kept of a partition, if any are
-abbrev pub kept_in : List (Option (List Answer)) → ℕ → Option (List Answer)
-kept_in table zero = None
-kept_in table (suc place) = answers_if_any (slice_get table place)
-
--- the answers kept of a partition, none where there are none
+-- in a table of the answers kept of each partition, from 1, those of one, none where there are none
 abbrev pub answers_in : List (Option (List Answer)) → ℕ → List Answer
-answers_in table p = unwrap_or (kept_in table p) []
-
--- the table with a partition's answers
-abbrev pub with_part : List (Option (List Answer)) → ℕ → List Answer → List (Option (List Answer))
-with_part table zero answers = table
-with_part table (suc place) answers = slice_set table place (Some answers)
+answers_in table p = unwrap_or (kept_at table p) []

@@ -1,7 +1,8 @@
 ghost use Rattle.std.specs.Bool.{OnTrue, OnFalse};
-ghost use Rattle.std.specs.Prelude.{◌≡◌, ◌≤◌, None, replicate, is_none, slice_get, IfOk};
+ghost use Rattle.std.specs.Prelude.{◌≡◌, ◌≤◌, Some, None, replicate, is_none, slice_get, IfOk};
 ghost use Rattle.std.specs.Option.{option_copied};
-ghost use Rattle.tp_ops.specs.Parts.{answers_in, kept_in, merged, with_part};
+ghost use Rattle.tp_base.specs.Tables.{kept_at, with_nth};
+ghost use Rattle.tp_ops.specs.Parts.{answers_in, merged};
 
 use crate::command::Command;
 use crate::operation::{Answer, Answers};
@@ -40,8 +41,8 @@ impl Parts {
     pub fn put(&mut self, p: PartitionId, answers: Answers) -> bool
         requires from { 1 ≤ p.0 }
         requires to { p.0 ≤ 4 }
-        ensures new { result ≡ is_none (kept_in self.old p.0) }
-        ensures kept { OnTrue result (self.new ≡ with_part self.old p.0 answers) }
+        ensures new { result ≡ is_none (kept_at self.old p.0) }
+        ensures kept { OnTrue result (self.new ≡ with_nth self.old p.0 (Some answers)) }
         ensures same { OnFalse result (self.new ≡ self.old) }
     {
         let i = usize::from(p.0) - 1;
@@ -56,7 +57,7 @@ impl Parts {
     pub fn get(&self, p: PartitionId) -> Option<&Answers>
         requires from { 1 ≤ p.0 }
         requires to { p.0 ≤ 4 }
-        ensures { option_copied result ≡ kept_in self.now p.0 }
+        ensures { option_copied result ≡ kept_at self.now p.0 }
     {
         self.answers[usize::from(p.0) - 1].as_ref()
     }

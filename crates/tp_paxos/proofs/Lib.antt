@@ -1,3 +1,2 @@
 pub mod Dealing
 pub mod Counted
-pub mod Fronts

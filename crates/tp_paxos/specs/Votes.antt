@@ -1,5 +1,6 @@
 -- The votes for a stamp that is put at a ballot.
-use Rattle.std.specs.Prelude.{ℕ, zero, suc, ◌+◌, ◌==◌, nat_le, true, false, Bool, cond, List, [], ◌∷◌, Option, Some, None, replicate, slice_set}
+use Rattle.std.specs.Prelude.{ℕ, ◌+◌, ◌==◌, nat_le, true, false, Bool, cond, List, [], ◌∷◌, Option, Some, None, replicate}
+use Rattle.tp_base.specs.Tables.{with_nth}
 use Rattle.tp_topology.specs.Shape.{Shape, slow_size}
 
 -- a stamp that is put to the vote at a ballot, and whether each rank of the shape, from 1, voted for it
@@ -23,11 +24,6 @@ abbrev pub count_votes : List Bool → ℕ
 count_votes [] = 0
 count_votes (vote ∷ votes) = cond vote (1 + count_votes votes) (count_votes votes)
 
--- with the vote of a rank, from 1
-abbrev pub with_vote : List Bool → ℕ → List Bool
-with_vote votes zero = votes
-with_vote votes (suc place) = slice_set votes place true
-
 -- whether a stamp is put at this ballot
 abbrev pub is_put_at : ℕ → Option PutStamp → Bool
 is_put_at b None = false
@@ -35,7 +31,7 @@ is_put_at b (Some put) = put.ballot == b
 
 -- with the vote of a rank
 abbrev pub voted_too : ℕ → PutStamp → PutStamp
-voted_too rank put = record { ballot = put.ballot; stamp = put.stamp; votes = with_vote put.votes rank }
+voted_too rank put = record { ballot = put.ballot; stamp = put.stamp; votes = with_nth put.votes rank true }
 
 abbrev pub voted_by : ℕ → Option PutStamp → Option PutStamp
 voted_by rank None = None

@@ -3,8 +3,10 @@ use Rattle.indexmap.specs.IndexMap.{IndexMap, get}
 use Rattle.std.proofs.Common.{◌≡◌, ℕ, ◌==◌, ◌&&◌, Bool, true, false, cond, List, Option, Some, None, refl, sym, ap, subst, ◌∙◌}
 use Rattle.std.specs.Option.{option_or}
 use Rattle.std.specs.Prelude.{is_some, unwrap_or}
+use Rattle.tp_base.proofs.Options.{absent}
 use Rattle.tp_base.proofs.SameNames.{same_id_is, same_id_refl}
 use Rattle.tp_base.specs.Names.{same_id, same_name}
+use Rattle.tp_base.specs.Tables.{kept_at}
 use Rattle.tp_base.specs.declared.names.ActorName.{ActorName}
 use Rattle.tp_base.specs.declared.names.ActorName.TheVariants.{Session}
 use Rattle.tp_base.specs.declared.names.PartitionId.{PartitionId}
@@ -12,9 +14,8 @@ use Rattle.tp_rules.specs.Outcome.{result_by}
 use Rattle.tp_wire.specs.declared.message.Body.{Body}
 use Rattle.tp_wire.specs.declared.message.Body.TheVariants.{MResult}
 use Rattle.tp_base.specs.declared.names.CommandId.{CommandId}
-use Rattle.tp_ops.specs.Parts.{kept_in}
 use Rattle.tp_ops.specs.declared.operation.Answer.{Answer}
-use Rattle.tp_print.proofs.KeptFirst.{absent, option_or_none}
+use Rattle.tp_print.proofs.KeptFirst.{option_or_none}
 use Rattle.tp_print.specs.Results.{ByPartition, answers_at, none_kept}
 
 module _ {S : Type 0} (old new : IndexMap CommandId ByPartition S) (id : CommandId) where
@@ -22,12 +23,12 @@ module _ {S : Type 0} (old new : IndexMap CommandId ByPartition S) (id : Command
   pub opened : is_some (get same_id old id) ≡ false
       → ((q : CommandId) → get same_id new q ≡ cond (same_id id q) (Some none_kept) (get same_id old q))
       → (q : CommandId) (p : ℕ) → answers_at new q p ≡ answers_at old q p
-  opened missing updates q p = ap (λ (o : Option ByPartition). kept_in (unwrap_or o none_kept) p) (updates q)
+  opened missing updates q p = ap (λ (o : Option ByPartition). kept_at (unwrap_or o none_kept) p) (updates q)
       ∙ by (same_id id q) refl
     where
       by : (b : Bool) → same_id id q ≡ b
-          → kept_in (unwrap_or (cond b (Some none_kept) (get same_id old q)) none_kept) p ≡ answers_at old q p
-      by true e = sym (ap (λ (o : Option ByPartition). kept_in (unwrap_or o none_kept) p)
+          → kept_at (unwrap_or (cond b (Some none_kept) (get same_id old q)) none_kept) p ≡ answers_at old q p
+      by true e = sym (ap (λ (o : Option ByPartition). kept_at (unwrap_or o none_kept) p)
           (ap (get same_id old) (sym (same_id_is id q e)) ∙ absent (get same_id old id) missing))
       by false e = refl
 

@@ -4,8 +4,8 @@ use Rattle.std.specs.Prelude.{◌==◌, reverse, slice_get}
 use Rattle.std.proofs.lemmas.Bool.{cases_eq, eq-eqb, ne_eqb}
 use Rattle.std.proofs.lemmas.List.{length-reverse}
 use Rattle.tp_base.proofs.Ends.{reverse_push, slice_get_push, snoc_ind}
+use Rattle.tp_base.specs.Tables.{nth}
 use Rattle.tp_rules.specs.Journal.{output_at}
-use Rattle.tp_rules.specs.Tables.{nth}
 use Rattle.tp_rules.specs.declared.event.Entry.{Entry}
 use Rattle.tp_wire.specs.declared.message.Message.{Message}
 

@@ -5,7 +5,8 @@ use Rattle.std.specs.Prelude.{◌==◌, ◌&&◌, filter}
 use Rattle.std.proofs.lemmas.List.Elements.{filter-append}
 use Rattle.std.proofs.lemmas.List.Folds.{list_all-append}
 use Rattle.tp_base.specs.Partition.{partition_number}
-use Rattle.tp_ops.specs.Parts.{answers_in, first_of, is_accessed, kept_in, key_of, merged, rest_of}
+use Rattle.tp_base.specs.Tables.{kept_at}
+use Rattle.tp_ops.specs.Parts.{answers_in, first_of, is_accessed, key_of, merged, rest_of}
 use Rattle.tp_ops.specs.declared.command.Command.{Command}
 use Rattle.tp_ops.specs.declared.operation.Answer.{Answer}
 use Rattle.tp_ops.specs.declared.operation.Op.{Op}
@@ -51,10 +52,10 @@ all_same f g a (suc n) same =
 module _ (script : Script) (c : Command) (table : ByPartition) (parts : ℕ → Option (List Answer))
     (some : 1 ≤ script.topology.partitions) (few : script.topology.partitions ≤ 4)
     (kept : AreKept table parts) where
-  all_told : list_all (λ q. is_some (parts q)) (accessed script.topology c) ≡ list_all (λ q. is_some (kept_in table q))
+  all_told : list_all (λ q. is_some (parts q)) (accessed script.topology c) ≡ list_all (λ q. is_some (kept_at table q))
       (accessed script.topology c)
   all_told =
-      sym (all_same (λ q. is_some (kept_in table q)) (λ q. is_some (parts q))
+      sym (all_same (λ q. is_some (kept_at table q)) (λ q. is_some (parts q))
       (is_accessed script.topology.partitions c) script.topology.partitions
       (λ q low high. ap is_some (kept q low (omega (arith, few)))))
 
@@ -62,13 +63,13 @@ module _ (script : Script) (c : Command) (table : ByPartition) (parts : ℕ → 
   told = merged script.topology.partitions c.ops (λ q. unwrap_or (parts q) [])
 
   -- some are wanting
-  pub not_replied : list_all (λ q. is_some (kept_in table q)) (accessed script.topology c) ≡ false
+  pub not_replied : list_all (λ q. is_some (kept_at table q)) (accessed script.topology c) ≡ false
       → reply_from script parts (Some c) ≡ None
   unfolding told
   not_replied whole = ap (λ (b : Bool). cond b (Some told) None) (all_told ∙ whole)
 
   -- all are there
-  pub replied : list_all (λ q. is_some (kept_in table q)) (accessed script.topology c) ≡ true
+  pub replied : list_all (λ q. is_some (kept_at table q)) (accessed script.topology c) ≡ true
       → reply_from script parts (Some c) ≡ Some (merged script.topology.partitions c.ops (answers_in table))
   unfolding told
   replied whole =

@@ -8,9 +8,10 @@ use Rattle.std.proofs.lemmas.List.Elements.{filter-append}
 use Rattle.std.proofs.lemmas.List.Folds.{find-append}
 use Rattle.std.proofs.lemmas.Option.{slice_get-map, slice_get_read}
 use Rattle.tp_base.proofs.Ends.{get_set_other, get_set_same, slice_get_push_cases}
+use Rattle.tp_base.proofs.Options.{absent}
 use Rattle.tp_base.specs.Names.{same_id}
 use Rattle.tp_ops.specs.declared.command.Command.{Command}
-use Rattle.tp_print.proofs.KeptFirst.{absent, option_or_none}
+use Rattle.tp_print.proofs.KeptFirst.{option_or_none}
 use Rattle.tp_print.specs.Commands.{AreNumbered, Row, first_with}
 use Rattle.tp_print.specs.Report.{id_of}
 use Rattle.tp_script.specs.Accepted.{commands_by}

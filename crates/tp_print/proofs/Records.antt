@@ -2,12 +2,12 @@
 use Rattle.indexmap.specs.IndexMap.{IndexMap, get}
 use Rattle.std.proofs.Common.{◌≡◌, ◌⊎◌, inl, inr, Bool, true, false, cond, List, [], ◌∷◌, Option, Some, None, refl, sym, ap, subst, ◌∙◌}
 use Rattle.std.specs.Prelude.{is_some, unwrap_or}
+use Rattle.tp_base.proofs.Options.{absent}
 use Rattle.tp_base.proofs.SameNames.{same_site_is}
 use Rattle.tp_base.specs.Names.{same_name, same_site}
 use Rattle.tp_base.specs.declared.names.ActorName.TheVariants.{Process, Executor, Session}
 use Rattle.tp_base.specs.declared.names.SessionId.{SessionId}
 use Rattle.tp_base.specs.declared.names.Site.{Site}
-use Rattle.tp_print.proofs.KeptFirst.{absent}
 use Rattle.tp_print.proofs.Recording.{other_noted}
 use Rattle.tp_print.specs.Recorded.{AreRecorded, IsKept, IsRecorded}
 use Rattle.tp_print.specs.declared.site.SiteRecord.{SiteRecord}

@@ -1,6 +1,6 @@
 ghost use Rattle.std.specs.Option.{option_copied, option_or};
 ghost use Rattle.std.specs.Prelude.{◌≡◌, ◌≤◌, ◌==◌, ℕ, cond, Some, None, replicate};
-ghost use Rattle.tp_ops.specs.Parts.{kept_in};
+ghost use Rattle.tp_base.specs.Tables.{kept_at};
 
 use std::marker::Model;
 use tp_base::PartitionId;
@@ -37,7 +37,7 @@ impl<'a> FirstResults<'a> {
     pub fn put(&mut self, p: PartitionId, answers: &'a Answers)
         requires from { 1 ≤ p.0 }
         requires to { p.0 ≤ 4 }
-        ensures { (q : ℕ) → kept_in self.new q ≡ option_or (kept_in self.old q)
+        ensures { (q : ℕ) → kept_at self.new q ≡ option_or (kept_at self.old q)
             (cond (p.0 == q) (Some answers.now) None) }
     {
         let place = usize::from(p.0) - 1;
@@ -51,7 +51,7 @@ impl<'a> FirstResults<'a> {
     pub fn get(&self, p: PartitionId) -> Option<&Answers>
         requires from { 1 ≤ p.0 }
         requires to { p.0 ≤ 4 }
-        ensures { option_copied result ≡ kept_in self.now p.0 }
+        ensures { option_copied result ≡ kept_at self.now p.0 }
     {
         let kept = &self.answers[..];
         kept[usize::from(p.0) - 1]

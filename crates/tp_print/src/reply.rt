@@ -1,7 +1,8 @@
 ghost use Rattle.std.specs.List.{flat_map, list_all};
 ghost use Rattle.std.specs.Option.{option_copied};
 ghost use Rattle.std.specs.Prelude.{◌≡◌, ◌≤◌, ◌++◌, ℕ, List, Option, Some, is_some, map, slice_get, IfOk, OnOk};
-ghost use Rattle.tp_ops.specs.Parts.{answers_in, kept_in, merged};
+ghost use Rattle.tp_base.specs.Tables.{kept_at};
+ghost use Rattle.tp_ops.specs.Parts.{answers_in, merged};
 ghost use Rattle.tp_ops.specs.declared.operation.Answer.{Answer};
 ghost use Rattle.tp_print.specs.Results.{AreKept};
 ghost use Rattle.tp_print.specs.Report.{answer_word, reply_line, spaced};
@@ -18,7 +19,7 @@ use tp_topology::Topology;
 
 /// Whether the answers of all partitions that a command accesses are there.
 fn is_whole(topology: &Topology, command: &Command, first: &FirstResults) -> bool
-    ensures { result ≡ list_all (λ q. is_some (kept_in first.now q)) (accessed topology.now command.now) }
+    ensures { result ≡ list_all (λ q. is_some (kept_at first.now q)) (accessed topology.now command.now) }
 {
     let mut whole = true;
     for i in 0..topology.partitions() {

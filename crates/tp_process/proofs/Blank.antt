@@ -2,11 +2,11 @@
 use Rattle.std.proofs.Common.{◌≡◌, ℕ, zero, suc, Bool, true, false, Option, None, replicate, refl, ap, ◌∙◌, arith}
 use Rattle.std.proofs.lemmas.Bool.{and_parts, eqb-true, ltb-true}
 use Rattle.std.specs.Prelude.{is_none, slice_get, ◌&&◌, ◌==◌, nat_lt}
+use Rattle.tp_base.specs.Tables.{kept_at, flat}
 use Rattle.tp_base.specs.declared.names.Site.{Site}
 use Rattle.tp_choice.specs.declared.answer.RecoveryAnswer.{RecoveryAnswer}
 use Rattle.tp_rules.specs.Addresses.{is_between}
 use Rattle.tp_rules.specs.Sheet.{blank, is_fresh, stamp_of}
-use Rattle.tp_rules.specs.Tables.{kept_at, flat}
 use Rattle.tp_sheet.specs.SiteSheet.{blank_at, takes_acknowledgement, choice_after_ack, with_acknowledgement, takes_vote, decision_after_vote, with_vote_of, final_of, ballot_by, with_try, takes_answer, choice_after_answer, with_answer_of}
 use Rattle.tp_topology.specs.Shape.{Shape}
 

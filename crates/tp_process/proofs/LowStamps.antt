@@ -7,6 +7,7 @@ use Rattle.std.proofs.lemmas.Option.{cond_some}
 use Rattle.tp_base.proofs.Each.{each_weaker}
 use Rattle.tp_base.specs.Limits.{STAMP_LIMIT}
 use Rattle.tp_base.specs.Lists.{Each}
+use Rattle.tp_base.specs.Tables.{flat, kept_at, with_nth}
 use Rattle.tp_base.specs.declared.names.Made.{Made}
 use Rattle.tp_choice.specs.Choosing.{best_from, chosen_of_proposals, chosen_with, greatest_by, member_stamp, recovery_choice, tells_slow}
 use Rattle.tp_choice.specs.declared.answer.RecoveryAnswer.{RecoveryAnswer}
@@ -20,7 +21,6 @@ use Rattle.tp_rules.proofs.FitStamps.{with_fit}
 use Rattle.tp_rules.proofs.Selections.{IfAny, each_replicate}
 use Rattle.tp_rules.specs.Addresses.{accessed, is_between, is_command_at}
 use Rattle.tp_rules.specs.Sheet.{Sheet, acknowledged, blank, final_stamp, with_command, putting, stamps_of, trying, with_accepted, with_answer, with_ballot, with_proposal, with_stamp, with_vote}
-use Rattle.tp_rules.specs.Tables.{flat, kept_at, with_nth}
 use Rattle.tp_topology.specs.Shape.{Shape, slow_size}
 
 low_set : (table : List (Option ℕ)) (i x : ℕ) → x < STAMP_LIMIT → AreLow table → AreLow (set table i (Some x))

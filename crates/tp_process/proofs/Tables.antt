@@ -10,10 +10,6 @@ use Rattle.tp_process.specs.Sheets.{sheet_at, OpensSheet, ChangesSheet}
 use Rattle.tp_sheet.specs.SiteSheet.{SiteSheet, blank_at}
 use Rattle.tp_topology.specs.Shape.{Shape}
 
-pub absent : {X : Type 0} (o : Option X) → is_some o ≡ false → o ≡ None
-absent None e = refl
-absent (Some x) e = absurd cc
-
 module _ {S : Type 0} (shape : Shape) (site : Site) (sheets : IndexMap CommandId SiteSheet S) (id : CommandId) where
   pub sheet_at-none : get same_id sheets id ≡ None → sheet_at shape site sheets id ≡ blank_at shape site
   sheet_at-none gone = ap (λ (o : Option SiteSheet). unwrap_or o (blank_at shape site)) gone

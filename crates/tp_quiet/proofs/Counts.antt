@@ -4,8 +4,10 @@
 use Rattle.std.proofs.Common.{◌≡◌, ◌⊎◌, ℕ, ◌<◌, ◌≤◌, Bool, inl, inr, true, false, cond, List, [], length, Option, Some, None, is_some, refl, sym, ap, subst, arith}
 use Rattle.std.specs.Prelude.{◌&&◌, ◌==◌, is_none, nat_le, nat_lt, not, replicate}
 use Rattle.std.proofs.lemmas.Bool.{and_parts, cond_both, eqb-false, eqb-true, leb-false}
+use Rattle.tp_base.proofs.Tables.{kept_here}
 use Rattle.tp_base.specs.Limits.{STAMP_LIMIT}
 use Rattle.tp_base.specs.Names.{same_name}
+use Rattle.tp_base.specs.Tables.{kept_at}
 use Rattle.tp_base.specs.declared.names.ActorName.{ActorName}
 use Rattle.tp_base.specs.declared.names.ActorName.TheVariants.{Process}
 use Rattle.tp_base.specs.declared.names.CommandId.{CommandId}
@@ -18,7 +20,7 @@ use Rattle.tp_facts.proofs.ActSteps.{step_of_act}
 use Rattle.tp_facts.proofs.Facts.{IsGenuine, IsHere, SheetFacts}
 use Rattle.tp_facts.proofs.RuleTests.{ballot_put}
 use Rattle.tp_facts.proofs.StepCases.{SheetStep, puts_slow, counts_vote, decides_by_votes, counts_answer, puts_recovered, starts_recovery}
-use Rattle.tp_facts.proofs.Tables.{kept_here, present_none, present_with}
+use Rattle.tp_facts.proofs.Tables.{present_none, present_with}
 use Rattle.tp_ops.specs.declared.command.Command.{Command}
 use Rattle.tp_paxos.specs.Votes.{PutStamp, count_votes, decision, is_put_at}
 use Rattle.tp_quorum.specs.Choice.{present}
@@ -26,7 +28,6 @@ use Rattle.tp_rules.specs.Acts.{Act, Took, Did}
 use Rattle.tp_rules.specs.Addresses.{is_body_at, is_name_of, rank_of}
 use Rattle.tp_rules.specs.Process.{Step, ProcessState, on_body, on_consensus_ack, on_rec_ack, put_recovered, react, recovered, voted, with_room, with_sheet}
 use Rattle.tp_rules.specs.Sheet.{QuorumRule, Sheet, can_answer, can_vote, is_recovered, putting, stamp_decided, with_answer, with_vote}
-use Rattle.tp_rules.specs.Tables.{kept_at}
 use Rattle.tp_topology.specs.Shape.{IsShape, recovery_size, slow_size}
 use Rattle.tp_wire.specs.declared.message.Body.{Body}
 use Rattle.tp_wire.specs.declared.message.Body.TheVariants.{MConsensusAck, MRecAck}

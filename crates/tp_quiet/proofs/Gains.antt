@@ -1,9 +1,9 @@
 -- Tables and votes only gain: what was kept or voted stays, and is there once it came.
 -- Used for what a message leaves behind (Served), and where nothing is under way (NotStuck).
-use Rattle.std.proofs.Common.{◌≡◌, ℕ, zero, suc, ◌<◌, ◌≤◌, Bool, true, false, List, [], ◌∷◌, length, Option, Some, None, is_some, refl, arith}
+use Rattle.std.proofs.Common.{◌≡◌, ℕ, zero, suc, ◌≤◌, Bool, true, false, List, [], ◌∷◌, length, Option, Some, None, is_some, refl, arith}
 use Rattle.std.specs.Prelude.{replicate, slice_get, slice_set}
-use Rattle.tp_paxos.specs.Votes.{PutStamp, count_votes, with_vote}
-use Rattle.tp_rules.specs.Tables.{flat, kept_at, nth, with_nth}
+use Rattle.tp_base.specs.Tables.{flat, kept_at, nth, with_nth}
+use Rattle.tp_paxos.specs.Votes.{PutStamp, count_votes}
 
 abbrev pub votes_put : Option PutStamp → List Bool
 votes_put None = []
@@ -17,19 +17,10 @@ set_true (v ∷ votes) zero (suc j) e = e
 set_true (v ∷ votes) (suc i) zero e = e
 set_true (v ∷ votes) (suc i) (suc j) e = set_true votes i j e
 
-pub vote_stays : (votes : List Bool) (i j : ℕ) → nth votes j ≡ Some true → nth (with_vote votes i) j ≡ Some true
+pub vote_stays : (votes : List Bool) (i j : ℕ) → nth votes j ≡ Some true → nth (with_nth votes i true) j ≡ Some true
 vote_stays votes zero j e = e
 vote_stays votes (suc i) zero e = absurd cc
 vote_stays votes (suc i) (suc j) e = set_true votes i j e
-
-set_here : (votes : List Bool) (i : ℕ) → i < length votes → slice_get (slice_set votes i true) i ≡ Some true
-set_here [] i lt = absurd (omega arith)
-set_here (v ∷ votes) zero lt = refl
-set_here (v ∷ votes) (suc i) lt = set_here votes i (omega arith)
-
-pub vote_here : (votes : List Bool) (i : ℕ) → 1 ≤ i → i ≤ length votes → nth (with_vote votes i) i ≡ Some true
-vote_here votes zero low high = absurd (omega arith)
-vote_here votes (suc i) low high = set_here votes i (omega arith)
 
 pub no_votes : (n : ℕ) → count_votes (replicate n false) ≡ 0
 no_votes zero = refl

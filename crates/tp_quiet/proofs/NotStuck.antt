@@ -4,12 +4,12 @@ use Rattle.std.proofs.Common.{◌≡◌, ◌⊎◌, ℕ, zero, suc, ◌+◌, ◌
 use Rattle.std.specs.Prelude.{◌-◌, nat_le}
 use Rattle.std.proofs.lemmas.Bool.{cases_Bool, cases_eq, cases_lt, leb-true, leb-false}
 use Rattle.tp_base.specs.Limits.{IsFrom}
+use Rattle.tp_base.specs.Tables.{nth, kept_at}
 use Rattle.tp_facts.proofs.RuleTests.{ballot_put}
 use Rattle.tp_ops.specs.declared.command.Command.{Command}
 use Rattle.tp_paxos.specs.Votes.{count_votes}
 use Rattle.tp_quorum.specs.Choice.{present}
 use Rattle.tp_rules.specs.Sheet.{QuorumRule, Sheet}
-use Rattle.tp_rules.specs.Tables.{nth, kept_at}
 use Rattle.tp_topology.proofs.Passing.{count_more, count_same}
 use Rattle.tp_topology.specs.Ballots.{owner}
 use Rattle.tp_topology.specs.Counting.{count_up_to}

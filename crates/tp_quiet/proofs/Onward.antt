@@ -2,6 +2,7 @@
 -- Used for what the messages that it took leave behind (AllServed).
 use Rattle.std.proofs.Common.{◌≡◌, ◌⊎◌, ℕ, ◌<◌, ◌≤◌, inl, inr, true, false, List, Option, Some, None, is_some, refl, sym, ap, arith}
 use Rattle.std.specs.Prelude.{is_none}
+use Rattle.tp_base.specs.Tables.{kept_at, nth}
 use Rattle.tp_base.specs.declared.names.CommandId.{CommandId}
 use Rattle.tp_base.specs.declared.names.Site.{Site}
 use Rattle.tp_facts.proofs.Facts.{IsGenuine, IsHere, SheetFacts}
@@ -13,7 +14,6 @@ use Rattle.tp_rules.specs.Acts.{Act}
 use Rattle.tp_rules.specs.Addresses.{rank_of}
 use Rattle.tp_rules.specs.Process.{Step, ProcessState}
 use Rattle.tp_rules.specs.Sheet.{Proposed, QuorumRule, Sheet, stamp_of}
-use Rattle.tp_rules.specs.Tables.{kept_at, nth}
 use Rattle.tp_topology.specs.Ballots.{next_ballot}
 use Rattle.tp_wire.specs.declared.message.Message.{Message}
 use Rattle.tp_quiet.proofs.EachSheet.{each_sheet}

@@ -5,8 +5,10 @@ use Rattle.std.specs.Prelude.{◌&&◌, ◌==◌, is_none, nat_lt}
 use Rattle.std.proofs.lemmas.Bool.{and_from, and_parts, both_ways, cases_Bool, cond_both, eq-eqb, lt-ltb}
 use Rattle.tp_base.proofs.Options.{none_of}
 use Rattle.tp_base.proofs.SameNames.{same_id_is}
+use Rattle.tp_base.proofs.Tables.{kept_here}
 use Rattle.tp_base.specs.Lists.{Each}
 use Rattle.tp_base.specs.Names.{same_id}
+use Rattle.tp_base.specs.Tables.{kept_at}
 use Rattle.tp_base.specs.declared.names.ActorName.TheVariants.{Process}
 use Rattle.tp_base.specs.declared.names.CommandId.{CommandId}
 use Rattle.tp_base.specs.declared.names.Made.TheVariants.{Proposal}
@@ -17,14 +19,12 @@ use Rattle.tp_facts.proofs.Facts.{IsGenuine, IsHere, KeepsCommand, ProcessFacts,
 use Rattle.tp_facts.proofs.Invariant.{facts_hold}
 use Rattle.tp_facts.proofs.RuleTests.{ballot_put}
 use Rattle.tp_facts.proofs.StepCases.{SheetStep, submits, submits_and_acknowledges, proposes, proposes_and_answers_recovery}
-use Rattle.tp_facts.proofs.Tables.{kept_here}
 use Rattle.tp_ops.specs.declared.command.Command.{Command}
 use Rattle.tp_paxos.specs.Votes.{PutStamp}
 use Rattle.tp_quorum.specs.Choice.{present}
 use Rattle.tp_rules.specs.Acts.{Act, Took, Did}
 use Rattle.tp_rules.specs.Process.{Step, ProcessState, next_stamp, on_body, on_submit, react, state_after, submitted}
 use Rattle.tp_rules.specs.Sheet.{Proposed, QuorumRule, Sheet, acknowledged, acknowledged_own, blank, can_acknowledge, command_or, is_fresh, is_made_by_proposal, is_member, stamp_of, with_command, with_proposal}
-use Rattle.tp_rules.specs.Tables.{kept_at}
 use Rattle.tp_topology.specs.Shape.{Shape, fast_size}
 use Rattle.tp_wire.specs.declared.message.Body.{Body}
 use Rattle.tp_wire.specs.declared.message.Body.TheVariants.{MPropose, MSubmit}

@@ -3,6 +3,7 @@
 use Rattle.std.proofs.Common.{◌≡◌, ◌⊎◌, ℕ, ◌<◌, ◌≤◌, inl, inr, true, false, List, Some, is_some, ◌∙◌, arith}
 use Rattle.std.specs.Prelude.{is_none}
 use Rattle.tp_base.specs.Lists.{IsIn}
+use Rattle.tp_base.specs.Tables.{kept_at, nth}
 use Rattle.tp_base.specs.declared.names.ActorName.{ActorName}
 use Rattle.tp_base.specs.declared.names.ActorName.TheVariants.{Process}
 use Rattle.tp_base.specs.declared.names.CommandId.{CommandId}
@@ -12,7 +13,6 @@ use Rattle.tp_ops.specs.Parts.{is_accessed}
 use Rattle.tp_ops.specs.declared.command.Command.{Command}
 use Rattle.tp_rules.specs.Addresses.{message, rank_of}
 use Rattle.tp_rules.specs.Sheet.{QuorumRule, Sheet, stamp_of}
-use Rattle.tp_rules.specs.Tables.{kept_at, nth}
 use Rattle.tp_wire.specs.declared.message.Body.{Body}
 use Rattle.tp_wire.specs.declared.message.Body.TheVariants.{MSubmit, MPropose, MProposeAck, MConsensus, MConsensusAck, MCommit, MRec, MRecAck}
 use Rattle.tp_wire.specs.declared.message.Message.{Message}

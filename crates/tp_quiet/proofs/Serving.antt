@@ -3,8 +3,10 @@
 use Rattle.std.proofs.Common.{◌≡◌, ◌⊎◌, ℕ, ◌<◌, ◌≤◌, Bool, inl, inr, true, false, cond, [], length, Option, Some, None, is_some, refl, sym, ap, subst, arith}
 use Rattle.std.specs.Prelude.{◌&&◌, ◌==◌, is_none, nat_lt, not}
 use Rattle.std.proofs.lemmas.Bool.{and_from, and_parts, both_ways, cases_Bool, cond_both, eq-eqb, eqb-false, eqb-true, leb-false, lt-ltb, ltb-false}
+use Rattle.tp_base.proofs.Tables.{kept_here, nth_here}
 use Rattle.tp_base.specs.Limits.{STAMP_LIMIT}
 use Rattle.tp_base.specs.Names.{same_id, same_name}
+use Rattle.tp_base.specs.Tables.{kept_at, nth}
 use Rattle.tp_base.specs.declared.names.ActorName.{ActorName}
 use Rattle.tp_base.specs.declared.names.ActorName.TheVariants.{Process}
 use Rattle.tp_base.specs.declared.names.CommandId.{CommandId}
@@ -15,7 +17,6 @@ use Rattle.tp_choice.specs.Choosing.{recovery_choice}
 use Rattle.tp_choice.specs.declared.answer.RecoveryAnswer.{RecoveryAnswer}
 use Rattle.tp_facts.proofs.RuleTests.{ballot_put}
 use Rattle.tp_facts.proofs.SamePartition.{IsPeer}
-use Rattle.tp_facts.proofs.Tables.{kept_here}
 use Rattle.tp_ops.specs.Parts.{is_accessed}
 use Rattle.tp_ops.specs.declared.command.Command.{Command}
 use Rattle.tp_paxos.specs.Votes.{PutStamp, is_put_at}
@@ -27,13 +28,12 @@ use Rattle.tp_rules.proofs.Fit.{between_is}
 use Rattle.tp_rules.specs.Acts.{Took}
 use Rattle.tp_rules.specs.Process.{Step, ProcessState, accept_and_vote, answer_recovery, answer_with_old_proposal, conclude_fast_path, follow_choice, learned, next_stamp, on_body, on_commit, on_consensus, on_consensus_ack, on_propose, on_propose_ack, on_rec_ack, on_rec_by_stamp, on_submit, propose_and_acknowledge, propose_and_answer, put_recovered, react, recovered, submitted, voted, with_room, with_sheet}
 use Rattle.tp_rules.specs.Sheet.{Proposed, QuorumRule, Sheet, acknowledged, acknowledged_own, can_accept, can_acknowledge, can_answer, can_vote, is_fresh, is_full, is_made_by_proposal, is_member, is_recovered, is_untouched, putting, stamp_decided, stamp_of, with_answer, with_command, with_proposal, with_stamp, with_vote}
-use Rattle.tp_rules.specs.Tables.{kept_at, nth}
 use Rattle.tp_topology.specs.Shape.{fast_size}
 use Rattle.tp_wire.specs.declared.message.Body.{Body}
 use Rattle.tp_wire.specs.declared.message.Body.TheVariants.{MSubmit, MPropose, MProposeAck, MConsensus, MConsensusAck, MCommit, MRec, MRecAck}
 use Rattle.tp_wire.specs.declared.message.Message.{Message}
 use Rattle.tp_quiet.proofs.EachSheet.{itself, learned_leads, sheet_leads}
-use Rattle.tp_quiet.proofs.Gains.{vote_here, votes_put}
+use Rattle.tp_quiet.proofs.Gains.{votes_put}
 use Rattle.tp_quiet.proofs.Served.{IsServed, IsTouched, IsAcknowledged, IsVoted, IsVoteCounted, IsJoined, IsAnswerCounted, Knows}
 
 -- a full fast quorum was heeded: the stamp is known or put
@@ -154,7 +154,7 @@ module _ (s : QuorumRule) (me : Site) where
             (ballot_put (with_vote (rank_of from) (record (state.sheets id) { put = o })).put ≡ b)
             × (nth (votes_put (with_vote (rank_of from) (record (state.sheets id) { put = o })).put) (rank_of from) ≡ Some true))
             (sym is)
-            (eqb-true put.ballot b at, vote_here put.votes (rank_of from) places.rank_low (places.voters id put is))
+            (eqb-true put.ballot b at, nth_here put.votes (rank_of from) true places.rank_low (places.voters id put is))
 
         by_decision : (o : Option ℕ) (new : Sheet) → IsVoteCounted s me of from b new
             → ((t : ℕ) → IsVoteCounted s me of from b (with_stamp me.partition.0 t new))

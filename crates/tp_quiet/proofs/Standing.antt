@@ -4,8 +4,10 @@
 use Rattle.std.proofs.Common.{◌≡◌, ◌⊎◌, ℕ, ◌<◌, ◌≤◌, inl, inr, true, false, List, [], ◌∷◌, ◌++◌, length, Option, Some, None, is_none, is_some, refl, sym, ap, subst, ◌∙◌, arith}
 use Rattle.std.proofs.lemmas.Bool.{eqb-false}
 use Rattle.tp_base.proofs.Members.{in_left, in_right, map_in}
+use Rattle.tp_base.proofs.Tables.{kept_here}
 use Rattle.tp_base.specs.Limits.{IsFrom}
 use Rattle.tp_base.specs.Lists.{IsIn}
+use Rattle.tp_base.specs.Tables.{with_nth}
 use Rattle.tp_base.specs.declared.names.ActorName.{ActorName}
 use Rattle.tp_base.specs.declared.names.ActorName.TheVariants.{Process}
 use Rattle.tp_base.specs.declared.names.CommandId.{CommandId}
@@ -16,7 +18,7 @@ use Rattle.tp_facts.proofs.AcceptorKept.{carried}
 use Rattle.tp_facts.proofs.Facts.{IsGenuine, IsHere, KeepsCommand, WasTaken}
 use Rattle.tp_facts.proofs.Growing.{taken_more}
 use Rattle.tp_facts.proofs.StepCases.{SheetStep, submits, submits_and_acknowledges, proposes, keeps_payload, counts_acknowledgement, decides_fast, puts_slow, accepts, counts_vote, decides_by_votes, knows_already, learns, proposes_and_answers_recovery, answers_recovery, puts_recovered, starts_recovery}
-use Rattle.tp_facts.proofs.Tables.{kept_here, present_with}
+use Rattle.tp_facts.proofs.Tables.{present_with}
 use Rattle.tp_ops.specs.declared.command.Command.{Command}
 use Rattle.tp_paxos.specs.Votes.{PutStamp}
 use Rattle.tp_quorum.specs.Choice.{present}
@@ -27,7 +29,6 @@ use Rattle.tp_rules.specs.Acts.{Act, Took}
 use Rattle.tp_rules.specs.Addresses.{message, processes_of, rank_of, site, to_each}
 use Rattle.tp_rules.specs.Process.{asked, put_to_vote}
 use Rattle.tp_rules.specs.Sheet.{QuorumRule, Sheet, is_made_by_proposal, is_member}
-use Rattle.tp_rules.specs.Tables.{with_nth}
 use Rattle.tp_topology.specs.Counting.{up_to}
 use Rattle.tp_topology.specs.Shape.{fast_size}
 use Rattle.tp_wire.specs.declared.message.Body.{Body}

@@ -8,6 +8,7 @@ use Rattle.tp_base.proofs.Each.{each_in}
 use Rattle.tp_base.proofs.Members.{in_either}
 use Rattle.tp_base.specs.Limits.{IsFrom}
 use Rattle.tp_base.specs.Lists.{Each, IsIn}
+use Rattle.tp_base.specs.Tables.{kept_at, nth}
 use Rattle.tp_base.specs.declared.names.ActorName.{ActorName}
 use Rattle.tp_base.specs.declared.names.ActorName.TheVariants.{Process}
 use Rattle.tp_base.specs.declared.names.CommandId.{CommandId}
@@ -36,7 +37,6 @@ use Rattle.tp_rules.specs.Journal.{IsSent, act_of, acts}
 use Rattle.tp_rules.specs.Process.{state_after}
 use Rattle.tp_rules.specs.Runs.{IsFreeHistory, outputs_by}
 use Rattle.tp_rules.specs.Sheet.{Proposed, QuorumRule, Sheet, is_made_by_proposal, is_proposal, ring_rule, stamp_of}
-use Rattle.tp_rules.specs.Tables.{kept_at, nth}
 use Rattle.tp_rules.specs.declared.event.Entry.{Entry}
 use Rattle.tp_script.specs.Accepted.{IsAccepted}
 use Rattle.tp_script.specs.declared.script.Script.{Script}

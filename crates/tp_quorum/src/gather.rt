@@ -1,7 +1,7 @@
 ghost use Rattle.std.specs.Bool.{OnTrue, OnFalse};
-ghost use Rattle.std.specs.Prelude.{◌≡◌, ◌≤◌, None, replicate, is_none, length};
+ghost use Rattle.std.specs.Prelude.{◌≡◌, ◌≤◌, Some, None, replicate, is_none, length};
+ghost use Rattle.tp_base.specs.Tables.{kept_at, with_nth};
 ghost use Rattle.tp_quorum.specs.Choice.{present, greatest, count_of, fast_choice as choice_of};
-ghost use Rattle.tp_quorum.specs.Gathered.{stamp_at, with_stamp_at};
 ghost use Rattle.tp_topology.specs.Shape.{fast_size};
 
 use crate::choice::FastChoice;
@@ -37,8 +37,8 @@ impl Gather {
     pub fn put(&mut self, rank: Rank, stamp: Stamp) -> bool
         requires from { 1 ≤ rank.0 }
         requires to { rank.0 ≤ 7 }
-        ensures first { result ≡ is_none (stamp_at self.old rank.0) }
-        ensures kept { OnTrue result (self.new ≡ with_stamp_at self.old rank.0 stamp.0) }
+        ensures first { result ≡ is_none (kept_at self.old rank.0) }
+        ensures kept { OnTrue result (self.new ≡ with_nth self.old rank.0 (Some stamp.0)) }
         ensures same { OnFalse result (self.new ≡ self.old) }
     {
         let i = usize::from(rank.0) - 1;

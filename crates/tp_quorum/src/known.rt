@@ -1,7 +1,7 @@
 ghost use Rattle.std.specs.Bool.{OnTrue, OnFalse};
 ghost use Rattle.std.specs.Option.{option_map};
-ghost use Rattle.std.specs.Prelude.{◌≡◌, ◌≤◌, None, replicate, is_none};
-ghost use Rattle.tp_quorum.specs.Gathered.{stamp_at, with_stamp_at};
+ghost use Rattle.std.specs.Prelude.{◌≡◌, ◌≤◌, Some, None, replicate, is_none};
+ghost use Rattle.tp_base.specs.Tables.{kept_at, with_nth};
 
 use std::marker::Model;
 use tp_base::{PartitionId, Stamp};
@@ -34,8 +34,8 @@ impl Known {
     pub fn put(&mut self, p: PartitionId, stamp: Stamp) -> bool
         requires from { 1 ≤ p.0 }
         requires to { p.0 ≤ 4 }
-        ensures first { result ≡ is_none (stamp_at self.old p.0) }
-        ensures kept { OnTrue result (self.new ≡ with_stamp_at self.old p.0 stamp.0) }
+        ensures first { result ≡ is_none (kept_at self.old p.0) }
+        ensures kept { OnTrue result (self.new ≡ with_nth self.old p.0 (Some stamp.0)) }
         ensures same { OnFalse result (self.new ≡ self.old) }
     {
         let i = usize::from(p.0) - 1;
@@ -50,7 +50,7 @@ impl Known {
     pub fn get(&self, p: PartitionId) -> Option<Stamp>
         requires from { 1 ≤ p.0 }
         requires to { p.0 ≤ 4 }
-        ensures { option_map (λ t. t.0) result ≡ stamp_at self.now p.0 }
+        ensures { option_map (λ t. t.0) result ≡ kept_at self.now p.0 }
     {
         self.stamps[usize::from(p.0) - 1].map(Stamp)
     }

@@ -4,15 +4,16 @@ use Rattle.std.specs.Option.{option_or}
 use Rattle.std.specs.Prelude.{is_none, nat_le, option_map, ◌==◌, ◌&&◌}
 use Rattle.std.specs.List.{list_any}
 use Rattle.std.proofs.lemmas.Bool.{and_from, and_parts, cases_Bool, cond_both, cond-true, eq-eqb, eqb-true, le-leb}
+use Rattle.tp_base.proofs.Tables.{kept_here}
 use Rattle.tp_base.specs.Names.{same_id, same_name}
 use Rattle.tp_base.proofs.SameNames.{same_id_is, same_name_is, same_name_refl}
+use Rattle.tp_base.specs.Tables.{kept_at, nth, with_nth}
 use Rattle.tp_base.specs.declared.names.ActorName.{ActorName}
 use Rattle.tp_base.specs.declared.names.ActorName.TheVariants.{Session}
 use Rattle.tp_base.specs.declared.names.CommandId.{CommandId}
 use Rattle.tp_base.specs.declared.names.PartitionId.{PartitionId}
 use Rattle.tp_facts.proofs.Commands.{accessed_from}
 use Rattle.tp_facts.proofs.Deliveries.{output_is_sent}
-use Rattle.tp_facts.proofs.Tables.{kept_here}
 use Rattle.tp_ops.specs.declared.command.Command.{Command}
 use Rattle.tp_ops.specs.declared.operation.Answer.{Answer}
 use Rattle.tp_ops.specs.declared.operation.Op.{Op}
@@ -24,7 +25,6 @@ use Rattle.tp_rules.specs.Journal.{act_of, acts, client_of, output_at, with_act,
 use Rattle.tp_rules.specs.Outcome.{command_of, first_result, ops_of, result_at, result_by, result_in}
 use Rattle.tp_rules.specs.Runs.{IsFor, IsFreeHistory, MayHappen}
 use Rattle.tp_rules.specs.Session as session
-use Rattle.tp_rules.specs.Tables.{kept_at, nth, with_nth}
 use Rattle.tp_rules.specs.declared.event.Entry.{Entry}
 use Rattle.tp_rules.specs.declared.event.Event.{Event}
 use Rattle.tp_rules.specs.declared.event.Event.TheVariants.{Deliver, Dropped, Inner as OfItself}

@@ -7,13 +7,13 @@ use Rattle.tp_base.specs.Lists.{IsIn}
 use Rattle.tp_base.specs.Names.{same_id}
 use Rattle.tp_base.proofs.Members.{get_in, in_get}
 use Rattle.tp_base.proofs.SameNames.{same_id_is}
+use Rattle.tp_base.specs.Tables.{nth}
 use Rattle.tp_base.specs.declared.names.CommandId.{CommandId}
 use Rattle.tp_base.specs.declared.names.SessionId.{SessionId}
 use Rattle.tp_facts.proofs.Commands.{command_is}
 use Rattle.tp_ops.specs.declared.command.Command.{Command}
 use Rattle.tp_rules.specs.Journal.{commands_of}
 use Rattle.tp_rules.specs.Outcome.{command_of}
-use Rattle.tp_rules.specs.Tables.{nth}
 use Rattle.tp_rules.proofs.Fit.{command_in_range}
 use Rattle.tp_rules.proofs.Tallies.{filter_in, in_filter}
 use Rattle.tp_rules.proofs.UpTo.{get_map, get_up_to}

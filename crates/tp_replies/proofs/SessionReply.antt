@@ -5,16 +5,16 @@ use Rattle.std.specs.List.{list_all, list_any}
 use Rattle.std.proofs.lemmas.Bool.{eq-eqb, or_left, or_right}
 use Rattle.tp_base.specs.Lists.{IsIn}
 use Rattle.tp_base.specs.Partition.{partition_number}
+use Rattle.tp_base.specs.Tables.{kept_at}
 use Rattle.tp_base.specs.declared.names.CommandId.{CommandId}
 use Rattle.tp_ops.specs.declared.command.Command.{Command}
 use Rattle.tp_ops.specs.declared.operation.Answer.{Answer}
 use Rattle.tp_ops.specs.declared.operation.Op.{Op}
-use Rattle.tp_ops.specs.Parts.{first_of, is_accessed, is_on, key_of, merged, rest_of}
+use Rattle.tp_ops.specs.Parts.{answers_in, first_of, is_accessed, is_on, key_of, merged, rest_of}
 use Rattle.tp_rules.specs.Addresses.{accessed}
 use Rattle.tp_rules.specs.Outcome.{command_of, first_result, reply_from, reply_to}
 use Rattle.tp_rules.specs.Runs.{IsFreeHistory}
 use Rattle.tp_rules.specs.Session as session
-use Rattle.tp_rules.specs.Tables.{kept_at}
 use Rattle.tp_rules.specs.declared.event.Entry.{Entry}
 use Rattle.tp_script.specs.Accepted.{IsAccepted}
 use Rattle.tp_script.specs.declared.script.Script.{Script}
@@ -65,9 +65,9 @@ session_reply script older accepted history id =
         let first : ℕ → Option (List Answer) = first_result older id in
         let same : (p : ℕ) → list_any (is_on n p) c.ops ≡ true → kept_at table p ≡ first p =
         λ p on. kept_is_first script accepted id c is p on older history in
-        ap (λ (b : Bool). cond b (Some (merged n c.ops (session.answers_at table))) None)
+        ap (λ (b : Bool). cond b (Some (merged n c.ops (answers_in table))) None)
         (list_all_same (λ p. is_some (kept_at table p)) (λ p. is_some (first p)) ps
         (λ p there. ap is_some (same p (filter_in (is_accessed n c) (up_to n) p there).1)))
         ∙ ap (λ (answers : List Answer). cond (list_all (λ p. is_some (first p)) ps) (Some answers) None)
-        (merged_on n c.ops (session.answers_at table) (λ p. unwrap_or (first p) [])
+        (merged_on n c.ops (answers_in table) (λ p. unwrap_or (first p) [])
         (λ p on. ap (λ (o : Option (List Answer)). unwrap_or o []) (same p on)))

@@ -1,14 +1,13 @@
 -- The tables in which a session keeps answers, by partition. Used for what a session keeps.
-use Rattle.std.proofs.Common.{◌≡◌, ◌≢◌, ℕ, zero, suc, List, [], ◌∷◌, length, replicate, Option, Some, None, refl, sym, ap, ◌∙◌}
+use Rattle.std.proofs.Common.{◌≡◌, ◌≢◌, ℕ, List, [], ◌∷◌, length, replicate, Option, Some, None, refl, sym, ap, ◌∙◌}
 use Rattle.std.specs.Prelude.{◌==◌}
 use Rattle.std.proofs.lemmas.Bool.{cond_both}
 use Rattle.std.proofs.lemmas.List.{length-replicate}
-use Rattle.tp_base.proofs.Ends.{get_set_other}
-use Rattle.tp_facts.proofs.Tables.{kept_replicate, length_with}
+use Rattle.tp_base.proofs.Tables.{kept_replicate, length_with, nth_other}
+use Rattle.tp_base.specs.Tables.{flat, kept_at, with_nth}
 use Rattle.tp_ops.specs.declared.operation.Answer.{Answer}
 use Rattle.tp_rules.specs.Acts.{Act, Took, Did, Client}
 use Rattle.tp_rules.specs.Session as session
-use Rattle.tp_rules.specs.Tables.{flat, kept_at, with_nth}
 use Rattle.tp_rules.specs.declared.event.Inner.TheVariants.{Submit}
 use Rattle.tp_topology.specs.Shape.{Shape}
 use Rattle.tp_wire.specs.declared.message.Body.{Body}
@@ -25,10 +24,7 @@ none_kept n p = of_kept (kept_at (replicate n None) p) refl
 -- another partition's place is not touched
 pub kept_elsewhere : (table : List (Option (List Answer))) (q p : ℕ) (answers : List Answer) → q ≢ p
     → kept_at (with_nth table q (Some answers)) p ≡ kept_at table p
-kept_elsewhere table zero p answers apart = refl
-kept_elsewhere table (suc i) zero answers apart = refl
-kept_elsewhere table (suc i) (suc k) answers apart =
-    ap flat (get_set_other table i k (Some answers) (λ e. absurd (apart (ap (λ (n : ℕ). suc n) (sym e)))))
+kept_elsewhere table q p answers apart = ap flat (nth_other table q p (Some answers) (λ e. apart (sym e)))
 
 module _ (shape : Shape) (client : Client) where
   -- each table of a session has a place for each partition

@@ -8,6 +8,7 @@ use Rattle.std.specs.List.{list_any}
 use Rattle.std.specs.Prelude.{nat_lt, slice_get, ◌||◌, ◌==◌}
 use Rattle.tp_base.proofs.Each.{each_in, each_weaker}
 use Rattle.tp_base.specs.Lists.{Each, IsIn}
+use Rattle.tp_base.specs.Tables.{flat, kept_at, with_nth}
 use Rattle.tp_choice.specs.Choosing.{best_from, better, chosen_of_proposals, chosen_with, greatest_by, is_over, member_stamp, recovery_choice, tells_slow}
 use Rattle.tp_choice.specs.declared.answer.RecoveryAnswer.{RecoveryAnswer}
 use Rattle.tp_ops.specs.declared.command.Command.{Command}
@@ -15,7 +16,6 @@ use Rattle.tp_quorum.specs.Choice.{present}
 use Rattle.tp_rules.proofs.FitStamps.{with_fit}
 use Rattle.tp_rules.proofs.Selections.{IfAny, each_replicate}
 use Rattle.tp_rules.specs.Sheet.{QuorumRule, ring_rule}
-use Rattle.tp_rules.specs.Tables.{flat, kept_at, with_nth}
 use Rattle.tp_topology.proofs.Meetings.{IsShared, shared}
 use Rattle.tp_topology.proofs.Passing.{all_each}
 use Rattle.tp_topology.specs.Ballots.{next_ballot}

@@ -5,6 +5,7 @@ use Rattle.std.specs.Prelude.{option_map, slice_get, unwrap_or}
 use Rattle.tp_base.proofs.Each.{each_of, each_weaker}
 use Rattle.tp_base.specs.Limits.{IsFrom}
 use Rattle.tp_base.specs.Lists.{Each, IsIn}
+use Rattle.tp_base.specs.Tables.{nth}
 use Rattle.tp_base.specs.declared.names.ActorName.TheVariants.{Process, Session}
 use Rattle.tp_base.specs.declared.names.CommandId.{CommandId}
 use Rattle.tp_base.specs.declared.names.Rank.{Rank}
@@ -17,7 +18,6 @@ use Rattle.tp_rules.specs.Acts.{Act, Took, Did, Client}
 use Rattle.tp_rules.specs.Addresses.{accessed, is_between, message, site}
 use Rattle.tp_rules.specs.Journal.{client_of, commands_of, home_of}
 use Rattle.tp_rules.specs.Session.{Step, SessionState, on_body, on_result, react, submissions}
-use Rattle.tp_rules.specs.Tables.{nth}
 use Rattle.tp_rules.specs.declared.event.Inner.TheVariants.{Submit, Announce}
 use Rattle.tp_script.specs.Accepted.{IsAccepted}
 use Rattle.tp_script.specs.declared.script.Script.{Script}

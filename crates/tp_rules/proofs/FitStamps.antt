@@ -7,6 +7,7 @@ use Rattle.std.specs.Prelude.{is_some}
 use Rattle.tp_base.proofs.Members.{in_left, in_push}
 use Rattle.tp_base.specs.Limits.{IsFrom}
 use Rattle.tp_base.specs.Lists.{Each, IsIn}
+use Rattle.tp_base.specs.Tables.{kept_at, with_nth}
 use Rattle.tp_ops.specs.Parts.{is_accessed}
 use Rattle.tp_ops.specs.declared.command.Command.{Command}
 use Rattle.tp_quorum.specs.Choice.{fast_choice, greatest, is_fast, present}
@@ -15,7 +16,6 @@ use Rattle.tp_quorum.specs.declared.choice.FastChoice.TheVariants.{Fast, Slow}
 use Rattle.tp_rules.proofs.Selections.{IfAny, each_image, each_of_all, filter_some}
 use Rattle.tp_rules.specs.Addresses.{accessed}
 use Rattle.tp_rules.specs.Sheet.{Sheet, greatest_known, stamp_of, stamps_of}
-use Rattle.tp_rules.specs.Tables.{kept_at, with_nth}
 use Rattle.tp_topology.specs.Counting.{up_to}
 use Rattle.tp_topology.specs.Shape.{Shape}
 use Rattle.tp_wire.specs.Ranges.{IsNumber}

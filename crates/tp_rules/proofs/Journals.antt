@@ -8,11 +8,11 @@ use Rattle.std.specs.Prelude.{reverse, slice_get}
 use Rattle.tp_base.proofs.Ends.{reverse_push, slice_get_left, slice_get_push, snoc_ind}
 use Rattle.tp_base.proofs.SameNames.{same_name_refl}
 use Rattle.tp_base.specs.Names.{same_name}
+use Rattle.tp_base.specs.Tables.{nth}
 use Rattle.tp_base.specs.declared.names.ActorName.{ActorName}
 use Rattle.tp_rules.specs.Journal.{act_of, acts, numbered, output_at, sent, with_act}
 use Rattle.tp_rules.specs.Pending.{IsPicked, IsPickedHistory, IsPickedRun}
 use Rattle.tp_rules.specs.Runs.{FollowsRules, IsFreeHistory, IsFreeRun, IsHistory, IsLegal, IsRun}
-use Rattle.tp_rules.specs.Tables.{nth}
 use Rattle.tp_rules.specs.declared.event.Entry.{Entry}
 use Rattle.tp_script.specs.declared.script.Script.{Script}
 use Rattle.tp_wire.specs.declared.message.Message.{Message}

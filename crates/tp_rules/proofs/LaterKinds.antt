@@ -5,6 +5,7 @@ use Rattle.std.specs.Prelude.{◌==◌, ◌&&◌, not}
 use Rattle.std.proofs.lemmas.Bool.{cond_both}
 use Rattle.tp_base.specs.Lists.{Each, has}
 use Rattle.tp_base.specs.Names.{same_id, same_name}
+use Rattle.tp_base.specs.Tables.{nth}
 use Rattle.tp_base.specs.declared.names.ActorName.{ActorName}
 use Rattle.tp_base.specs.declared.names.ActorName.TheVariants.{Process, Executor, Session}
 use Rattle.tp_base.specs.declared.names.Site.{Site}
@@ -18,7 +19,6 @@ use Rattle.tp_rules.specs.Journal.{identity_in, client_of}
 use Rattle.tp_rules.specs.Left.{place_of}
 use Rattle.tp_rules.specs.Rules.{outputs_of}
 use Rattle.tp_rules.specs.Sheet.{QuorumRule, ring_rule}
-use Rattle.tp_rules.specs.Tables.{nth}
 use Rattle.tp_script.specs.declared.script.Script.{Script}
 use Rattle.tp_topology.specs.Shape.{Shape}
 use Rattle.tp_wire.specs.declared.message.Body.{Body}

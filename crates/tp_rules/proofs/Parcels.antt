@@ -7,9 +7,9 @@ use Rattle.std.proofs.lemmas.List.{append-nil}
 use Rattle.std.proofs.lemmas.List.Elements.{filter-append}
 use Rattle.tp_base.specs.Lists.{IsIn}
 use Rattle.tp_base.proofs.Members.{in_left, in_right, in_either}
+use Rattle.tp_base.specs.Tables.{nth}
 use Rattle.tp_rules.specs.Journal.{numbered, output_at, sent}
 use Rattle.tp_rules.specs.Plan.{is_counted_to, ordinal_of, fate_of, fate_by}
-use Rattle.tp_rules.specs.Tables.{nth}
 use Rattle.tp_rules.specs.declared.event.Entry.{Entry}
 use Rattle.tp_rules.specs.declared.event.Parcel.{Parcel}
 use Rattle.tp_rules.proofs.Distinct.{Distinct}

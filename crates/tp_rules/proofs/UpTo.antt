@@ -4,11 +4,11 @@ use Rattle.std.specs.Prelude.{slice_get}
 use Rattle.std.specs.List.{flat_map}
 use Rattle.std.proofs.lemmas.Bool.{cases_eq, cases_lt}
 use Rattle.std.proofs.lemmas.List.{length-append}
+use Rattle.tp_base.proofs.Ends.{slice_get_left, slice_get_push}
 use Rattle.tp_base.specs.Lists.{IsIn}
 use Rattle.tp_base.proofs.Members.{in_get, in_left, in_right}
-use Rattle.tp_rules.specs.Tables.{nth}
+use Rattle.tp_base.specs.Tables.{nth}
 use Rattle.tp_topology.specs.Counting.{up_to}
-use Rattle.tp_base.proofs.Ends.{slice_get_left, slice_get_push}
 
 pub length-up_to : (n : ℕ) → length (up_to n) ≡ n
 length-up_to zero = refl

@@ -1,5 +1,4 @@
 pub mod Acts
-pub mod Tables
 pub mod Addresses
 pub mod Sheet
 pub mod Process

@@ -1,15 +1,15 @@
 -- The rules of a session.
-use Rattle.std.specs.Prelude.{ℕ, ◌+◌, ◌==◌, ◌&&◌, nat_lt, nat_le, not, Bool, false, cond, List, [], ◌∷◌, Option, Some, None, is_some, is_none, length, map, replicate, unwrap_or}
+use Rattle.std.specs.Prelude.{ℕ, ◌+◌, ◌==◌, ◌&&◌, nat_lt, nat_le, not, Bool, false, cond, List, [], ◌∷◌, Option, Some, None, is_some, is_none, length, map, replicate}
 use Rattle.std.specs.List.{list_all}
 use Rattle.tp_base.specs.Names.{same_name}
+use Rattle.tp_base.specs.Tables.{nth, with_nth, kept_at}
 use Rattle.tp_base.specs.declared.names.ActorName.TheVariants.{Process, Session}
 use Rattle.tp_base.specs.declared.names.CommandId.{CommandId}
 use Rattle.tp_ops.specs.declared.command.Command.{Command}
 use Rattle.tp_ops.specs.declared.operation.Answer.{Answer}
-use Rattle.tp_ops.specs.Parts.{is_accessed, ops_on, merged}
+use Rattle.tp_ops.specs.Parts.{answers_in, is_accessed, ops_on, merged}
 use Rattle.tp_rules.specs.Acts.{Act, Took, Did, Client}
 use Rattle.tp_rules.specs.Addresses.{site, to_each, accessed, is_name_of, is_body_at}
-use Rattle.tp_rules.specs.Tables.{nth, with_nth, kept_at}
 use Rattle.tp_rules.specs.declared.event.Inner.{Inner}
 use Rattle.tp_rules.specs.declared.event.Inner.TheVariants.{Submit}
 use Rattle.tp_topology.specs.Counting.{count_up_to}
@@ -100,12 +100,9 @@ abbrev pub state_after : Shape → Client → List Act → SessionState
 state_after shape client [] = start shape
 state_after shape client (act ∷ before) = (react shape client act (state_after shape client before)).0
 
-abbrev pub answers_at : List (Option (List Answer)) → ℕ → List Answer
-answers_at parts q = unwrap_or (kept_at parts q) []
-
 abbrev pub merged_reply : Shape → List (Option (List Answer)) → Option Command → Option (List Answer)
 merged_reply shape parts None = None
-merged_reply shape parts (Some c) = cond (is_whole shape parts (Some c)) (Some (merged shape.partitions c.ops (answers_at parts))) None
+merged_reply shape parts (Some c) = cond (is_whole shape parts (Some c)) (Some (merged shape.partitions c.ops (answers_in parts))) None
 
 -- the reply to a command, where it is answered
 abbrev pub reply : Shape → Client → SessionState → ℕ → Option (List Answer)

@@ -1,6 +1,7 @@
 -- What a process keeps of one command.
 use Rattle.std.specs.Prelude.{ℕ, ◌==◌, ◌&&◌, nat_le, nat_lt, not, Bool, true, false, cond, List, Option, Some, None, is_none, is_some, length, map, replicate, unwrap_or}
 use Rattle.std.specs.List.{list_all}
+use Rattle.tp_base.specs.Tables.{with_nth, kept_at}
 use Rattle.tp_base.specs.declared.names.Made.{Made}
 use Rattle.tp_base.specs.declared.names.Made.TheVariants.{Proposal, Recovery}
 use Rattle.tp_choice.specs.declared.answer.RecoveryAnswer.{RecoveryAnswer}
@@ -8,7 +9,6 @@ use Rattle.tp_ops.specs.declared.command.Command.{Command}
 use Rattle.tp_paxos.specs.Votes.{PutStamp, decision, is_put_at, unvoted, voted_by}
 use Rattle.tp_quorum.specs.Choice.{present, greatest}
 use Rattle.tp_rules.specs.Addresses.{accessed}
-use Rattle.tp_rules.specs.Tables.{with_nth, kept_at}
 use Rattle.tp_topology.specs.Shape.{Shape, in_ring, fast_size, recovery_size}
 
 -- the store's shape, and which ranks are of a command's fast quorum: of the fast size, its home one of them

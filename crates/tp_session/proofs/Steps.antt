@@ -3,19 +3,19 @@ use Rattle.std.proofs.Common.{◌≡◌, ◌≢◌, ℕ, ◌+◌, ◌-◌, ◌�
 use Rattle.std.specs.Prelude.{◌==◌, nat_le}
 use Rattle.std.proofs.lemmas.Bool.{and_parts, cases_eq, cond-true, cond-false, eq-eqb, leb-true, ne_eqb, not_from_true, not_from_false}
 use Rattle.std.proofs.lemmas.List.{length-set, length_push}
+use Rattle.tp_base.proofs.Tables.{take-with_nth}
+use Rattle.tp_base.specs.Tables.{nth, with_nth}
 use Rattle.tp_base.specs.declared.names.CommandId.{CommandId}
 use Rattle.tp_ops.specs.declared.command.Command.{Command}
 use Rattle.tp_ops.specs.declared.operation.Answer.{Answer}
-use Rattle.tp_ops.specs.Parts.{with_part}
 use Rattle.tp_rules.specs.Acts.{Client}
 use Rattle.tp_rules.specs.Session.{Step, SessionState, is_awaited, is_whole, on_result, on_submit, open_count}
-use Rattle.tp_rules.specs.Tables.{nth, with_nth}
 use Rattle.tp_topology.specs.Counting.{count_up_to}
 use Rattle.tp_topology.specs.Shape.{Shape}
 use Rattle.tp_session.specs.declared.session.Session.{Session}
 use Rattle.tp_session.specs.States.{IsState, client, identity, parts_at, table}
 use Rattle.tp_session.proofs.Counts.{count_less, count_more, count_same}
-use Rattle.tp_session.proofs.Tables.{Table, awaited_open, awaited_some, parts_at-push, parts_at-set_other, parts_at-set_same, with_part-take}
+use Rattle.tp_session.proofs.Tables.{Table, awaited_open, awaited_some, parts_at-push, parts_at-set_other, parts_at-set_same}
 
 -- whether a command's number is not answered
 abbrev is_open : Shape → (ℕ → Table) → List Command → ℕ → Bool
@@ -103,7 +103,7 @@ counts s state new n st some most was others false part =
 -- the first answers of a partition, to one of the session's commands
 pub received : (s s' : Session) (id : CommandId) (q : ℕ) (answers : List Answer) → identity s' ≡ identity s
     → 1 ≤ q → q ≤ s.topology.partitions → test_of s id q answers ≡ true
-    → s'.kept.items ≡ set s.kept.items (id.number - 1) (with_part (parts_at s.kept.items id.number) q answers)
+    → s'.kept.items ≡ set s.kept.items (id.number - 1) (with_nth (parts_at s.kept.items id.number) q (Some answers))
     → s'.unanswered ≡ cond (is_whole s.topology (table s' id.number) (nth s.commands id.number)) (s.unanswered - 1) s.unanswered
     → (state : SessionState) → IsState s state → IsState s' (on_result s.topology (client s) id q answers state).0
 received s s' id q answers same low high passes kept unanswered state st =
@@ -114,19 +114,19 @@ received s s' id q answers same low high passes kept unanswered state st =
     let some : 1 ≤ n = awaited_some s.topology q answers (table s n) s.commands n within.1 in
     let few : n ≤ length s.kept.items = leb-true n (length s.kept.items) (and_parts (id.session.0 == s.id.0) (nat_le n (length s.kept.items)) within.0).1 in
     let new : ℕ → Table = λ k. cond (k == n) (with_nth (state.kept k) q (Some answers)) (state.kept k) in
-    let moved : (k : ℕ) → table s' k ≡ take m (parts_at (set s.kept.items (n - 1) (with_part parts q answers)) k) = λ k.
+    let moved : (k : ℕ) → table s' k ≡ take m (parts_at (set s.kept.items (n - 1) (with_nth parts q (Some answers))) k) = λ k.
     ap (λ (shape : Shape). take shape.partitions (parts_at s'.kept.items k)) (same_topology s s' same)
     ∙ ap (λ (items : List Table). take m (parts_at items k)) kept in
     let here : table s' n ≡ with_nth (state.kept n) q (Some answers) =
     moved n
-    ∙ ap (take m) (parts_at-set_same s.kept.items (with_part parts q answers) n some few)
-    ∙ with_part-take m q parts answers low high
+    ∙ ap (take m) (parts_at-set_same s.kept.items (with_nth parts q (Some answers)) n some few)
+    ∙ take-with_nth m parts q (Some answers)
     ∙ ap (λ (old : Table). with_nth old q (Some answers)) (st.kept n) in
     let tables : (k : ℕ) → table s' k ≡ new k = λ k. elim (cases_eq k n) [
       | inl e ↦ subst (λ (j : ℕ). table s' j ≡ new j) (sym e) (here ∙ sym (cond-true (n == n) (with_nth (state.kept n) q (Some answers)) (state.kept n) (eq-eqb n n refl)))
       | inr apart ↦
           moved k
-          ∙ ap (take m) (parts_at-set_other s.kept.items (with_part parts q answers) n k some apart)
+          ∙ ap (take m) (parts_at-set_other s.kept.items (with_nth parts q (Some answers)) n k some apart)
           ∙ st.kept k
           ∙ sym (cond-false (k == n) (with_nth (state.kept k) q (Some answers)) (state.kept k) (ne_eqb k n apart))
     ] in
@@ -139,7 +139,7 @@ received s s' id q answers same low high passes kept unanswered state st =
     let counted : (b : Bool) → is_whole s.topology (new n) (nth s.commands n) ≡ b → cond b (s.unanswered - 1) s.unanswered ≡ count_up_to (is_open s.topology new s.commands) state.submitted =
     counts s state new n st some most was others in
     let after : IsState s' (record { submitted = state.submitted; kept = new }) = record {
-      submitted = ap (λ (items : List Table). length items) kept ∙ length-set s.kept.items (n - 1) (with_part parts q answers) ∙ st.submitted;
+      submitted = ap (λ (items : List Table). length items) kept ∙ length-set s.kept.items (n - 1) (with_nth parts q (Some answers)) ∙ st.submitted;
       kept = tables;
       unanswered =
           unanswered

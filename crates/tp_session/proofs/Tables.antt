@@ -1,16 +1,17 @@
 -- Tables of kept answers: as a session keeps them, and as the rules say them.
 use Rattle.std.proofs.Common.{◌≡◌, ◌≢◌, ℕ, zero, suc, ◌+◌, ◌-◌, ◌<◌, ◌≤◌, inl, inr, Bool, true, false, ◌&&◌, List, [], ◌∷◌, ◌++◌, length, set, take, replicate, Option, Some, None, refl, sym, ap, ◌∙◌, arith}
 use Rattle.std.specs.Prelude.{◌==◌, is_none, is_some, slice_get, unwrap_or}
-use Rattle.std.proofs.Math.Seq.{take-set-lt}
 use Rattle.std.proofs.lemmas.List.{take-replicate}
 use Rattle.std.proofs.lemmas.Bool.{and_cases, and_parts, cond-true}
+use Rattle.tp_base.proofs.Ends.{get_set_here, get_set_other}
 use Rattle.tp_base.proofs.Options.{none_of}
+use Rattle.tp_base.proofs.Tables.{kept_at-take}
+use Rattle.tp_base.specs.Tables.{kept_at, nth}
 use Rattle.tp_ops.specs.declared.command.Command.{Command}
 use Rattle.tp_ops.specs.declared.operation.Answer.{Answer}
-use Rattle.tp_ops.specs.Parts.{answers_if_any, answers_in, is_accessed, kept_in, merged, ops_on, with_part}
+use Rattle.tp_ops.specs.Parts.{answers_in, is_accessed, merged, ops_on}
 use Rattle.tp_ops.proofs.Merging.{merged_within}
-use Rattle.tp_rules.specs.Session.{answers_at, is_awaited, is_whole, merged_reply}
-use Rattle.tp_rules.specs.Tables.{flat, kept_at, nth, with_nth}
+use Rattle.tp_rules.specs.Session.{is_awaited, is_whole, merged_reply}
 use Rattle.tp_topology.specs.Shape.{Shape}
 use Rattle.tp_session.proofs.Accessed.{all_fails, all_passes, all_skips, all_so_far}
 use Rattle.tp_session.specs.States.{parts_at}
@@ -18,33 +19,11 @@ use Rattle.tp_session.specs.States.{parts_at}
 abbrev pub Table : Type 0
 Table = List (Option (List Answer))
 
-slice_get-take : {X : Type 0} (n i : ℕ) (xs : List X) → i < n → slice_get (take n xs) i ≡ slice_get xs i
-slice_get-take zero i xs lt = absurd (omega arith)
-slice_get-take (suc n) i [] lt = refl
-slice_get-take (suc n) zero (x ∷ xs) lt = refl
-slice_get-take (suc n) (suc i) (x ∷ xs) lt = slice_get-take n i xs (omega arith)
-
-same_flat : (o : Option (Option (List Answer))) → flat o ≡ answers_if_any o
-same_flat None = refl
-same_flat (Some kept) = refl
-
--- a partition's answers, in the places that there are
-pub kept_at-take : (n q : ℕ) (parts : Table) → 1 ≤ q → q ≤ n → kept_at (take n parts) q ≡ kept_in parts q
-kept_at-take n zero parts low high = absurd (omega arith)
-kept_at-take n (suc i) parts low high =
-    ap flat (slice_get-take n i parts (omega arith)) ∙ same_flat (slice_get parts i)
-
 -- a reply reads no other place
-pub merged-take : (n : ℕ) (c : Command) (parts : Table) → 1 ≤ n → merged n c.ops (answers_in parts) ≡ merged n c.ops (answers_at (take n parts))
+pub merged-take : (n : ℕ) (c : Command) (parts : Table) → 1 ≤ n → merged n c.ops (answers_in parts) ≡ merged n c.ops (answers_in (take n parts))
 merged-take n c parts some =
-    merged_within n c.ops (answers_in parts) (answers_at (take n parts)) some
-    (λ q low high. ap (λ (o : Option (List Answer)). unwrap_or o []) (sym (kept_at-take n q parts low high)))
-
--- answers put at a partition's place
-pub with_part-take : (n q : ℕ) (parts : Table) (answers : List Answer) → 1 ≤ q → q ≤ n
-    → take n (with_part parts q answers) ≡ with_nth (take n parts) q (Some answers)
-with_part-take n zero parts answers low high = absurd (omega arith)
-with_part-take n (suc i) parts answers low high = take-set-lt n parts i (Some answers) (omega arith)
+    merged_within n c.ops (answers_in parts) (answers_in (take n parts)) some
+    (λ q low high. ap (λ (o : Option (List Answer)). unwrap_or o []) (sym (kept_at-take n parts q high)))
 
 push_nothing : (kept : List Table) (nothing : Table) (i : ℕ) → unwrap_or (slice_get (kept ++ nothing ∷ []) i) nothing ≡ unwrap_or (slice_get kept i) nothing
 push_nothing [] nothing zero = refl
@@ -57,30 +36,18 @@ pub parts_at-push : (kept : List Table) (n : ℕ) → parts_at (kept ++ replicat
 parts_at-push kept zero = refl
 parts_at-push kept (suc i) = push_nothing kept (replicate 4 None) i
 
-set_here : (kept : List Table) (parts nothing : Table) (i : ℕ) → i < length kept → unwrap_or (slice_get (set kept i parts) i) nothing ≡ parts
-set_here [] parts nothing i lt = absurd (omega arith)
-set_here (first ∷ kept) parts nothing zero lt = refl
-set_here (first ∷ kept) parts nothing (suc i) lt = set_here kept parts nothing i (omega arith)
-
-set_other : (kept : List Table) (parts : Table) (i k : ℕ) → k ≢ i → slice_get (set kept i parts) k ≡ slice_get kept k
-set_other [] parts i k apart = refl
-set_other (first ∷ kept) parts zero zero apart = absurd (apart refl)
-set_other (first ∷ kept) parts zero (suc k) apart = refl
-set_other (first ∷ kept) parts (suc i) zero apart = refl
-set_other (first ∷ kept) parts (suc i) (suc k) apart = set_other kept parts i k (λ e. apart (ap (λ (j : ℕ). suc j) e))
-
 -- a table changed at one command's number, which is there
 pub parts_at-set_same : (kept : List Table) (parts : Table) (n : ℕ) → 1 ≤ n → n ≤ length kept → parts_at (set kept (n - 1) parts) n ≡ parts
 parts_at-set_same kept parts zero low high = absurd (omega arith)
 parts_at-set_same kept parts (suc i) low high =
     let place : suc i - 1 ≡ i = omega arith in
     ap (λ (j : ℕ). unwrap_or (slice_get (set kept j parts) i) (replicate 4 None)) place
-    ∙ set_here kept parts (replicate 4 None) i (omega arith)
+    ∙ ap (λ (o : Option Table). unwrap_or o (replicate 4 None)) (get_set_here kept i parts (omega arith))
 
 pub parts_at-set_other : (kept : List Table) (parts : Table) (n k : ℕ) → 1 ≤ n → k ≢ n → parts_at (set kept (n - 1) parts) k ≡ parts_at kept k
 parts_at-set_other kept parts n zero low apart = refl
 parts_at-set_other kept parts n (suc i) low apart =
-    ap (λ (o : Option Table). unwrap_or o (replicate 4 None)) (set_other kept parts (n - 1) i (λ e. apart (omega arith)))
+    ap (λ (o : Option Table). unwrap_or o (replicate 4 None)) (get_set_other kept (n - 1) i parts (λ e. apart (omega arith)))
 
 -- at first no answers are kept
 pub table_start : (kept : List Table) (n m : ℕ) → kept ≡ [] → m ≤ 4 → take m (parts_at kept n) ≡ replicate m None
@@ -95,25 +62,25 @@ table_start kept n m none few =
 abbrev pub whole_so_far : ℕ → Table → Command → ℕ → Bool
 whole_so_far m parts c i = all_so_far (λ q. is_some (kept_at (take m parts) q)) (is_accessed m c) i
 
-none_kept : (m q : ℕ) (parts : Table) → 1 ≤ q → q ≤ m → is_none (kept_in parts q) ≡ true → is_some (kept_at (take m parts) q) ≡ false
-none_kept m q parts low high none = ap is_some (kept_at-take m q parts low high) ∙ ap is_some (none_of (kept_in parts q) none)
+none_kept : (m q : ℕ) (parts : Table) → 1 ≤ q → q ≤ m → is_none (kept_at parts q) ≡ true → is_some (kept_at (take m parts) q) ≡ false
+none_kept m q parts low high none = ap is_some (kept_at-take m parts q high) ∙ ap is_some (none_of (kept_at parts q) none)
 
 some_kept : (o : Option (List Answer)) → is_none o ≡ false → is_some o ≡ true
 some_kept None e = absurd cc
 some_kept (Some answers) e = refl
 
-pub whole_fails : (m q : ℕ) (parts : Table) (c : Command) → 1 ≤ q → q ≤ m → (is_accessed m c q && is_none (kept_in parts q)) ≡ true
+pub whole_fails : (m q : ℕ) (parts : Table) (c : Command) → 1 ≤ q → q ≤ m → (is_accessed m c q && is_none (kept_at parts q)) ≡ true
     → whole_so_far m parts c m ≡ false
 whole_fails m q parts c low high lacks =
-    let both = and_parts (is_accessed m c q) (is_none (kept_in parts q)) lacks in
+    let both = and_parts (is_accessed m c q) (is_none (kept_at parts q)) lacks in
     all_fails (λ k. is_some (kept_at (take m parts) k)) (is_accessed m c) m q low high both.0 (none_kept m q parts low high both.1)
 
-pub whole_more : (m i : ℕ) (parts : Table) (c : Command) → i < m → (is_accessed m c (i + 1) && is_none (kept_in parts (i + 1))) ≡ false
+pub whole_more : (m i : ℕ) (parts : Table) (c : Command) → i < m → (is_accessed m c (i + 1) && is_none (kept_at parts (i + 1))) ≡ false
     → whole_so_far m parts c i ≡ true → whole_so_far m parts c (i + 1) ≡ true
-whole_more m i parts c lt lacks so_far = elim (and_cases (is_accessed m c (i + 1)) (is_none (kept_in parts (i + 1))) lacks) [
+whole_more m i parts c lt lacks so_far = elim (and_cases (is_accessed m c (i + 1)) (is_none (kept_at parts (i + 1))) lacks) [
   | inl out ↦ all_skips (λ k. is_some (kept_at (take m parts) k)) (is_accessed m c) i out so_far
   | inr kept ↦ all_passes (λ k. is_some (kept_at (take m parts) k)) (is_accessed m c) i
-      (ap is_some (kept_at-take m (i + 1) parts (omega arith) (omega arith)) ∙ some_kept (kept_in parts (i + 1)) kept) so_far
+      (ap is_some (kept_at-take m parts (i + 1) (omega arith)) ∙ some_kept (kept_at parts (i + 1)) kept) so_far
 ]
 
 -- the reply to an answered command
@@ -121,7 +88,7 @@ pub reply_whole : (shape : Shape) (parts : Table) (c : Command) → 1 ≤ shape.
     → Some (merged shape.partitions c.ops (answers_in parts)) ≡ merged_reply shape (take shape.partitions parts) (Some c)
 reply_whole shape parts c some whole =
     ap (λ (answers : List Answer). Some answers) (merged-take shape.partitions c parts some)
-    ∙ sym (cond-true (is_whole shape (take shape.partitions parts) (Some c)) (Some (merged shape.partitions c.ops (answers_at (take shape.partitions parts)))) None whole)
+    ∙ sym (cond-true (is_whole shape (take shape.partitions parts) (Some c)) (Some (merged shape.partitions c.ops (answers_in (take shape.partitions parts)))) None whole)
 
 -- a command whose answers are awaited is not answered
 pub awaited_open : (shape : Shape) (q : ℕ) (answers : List Answer) (parts : Table) (o : Option Command) → 1 ≤ q → q ≤ shape.partitions

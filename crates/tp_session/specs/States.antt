@@ -1,9 +1,9 @@
 -- Where a session stands: its fields against the state of the rules.
 use Rattle.std.specs.Prelude.{◌≡◌, ℕ, List, Option, None, length, replicate, take, unwrap_or}
+use Rattle.tp_base.specs.Tables.{nth}
 use Rattle.tp_ops.specs.declared.operation.Answer.{Answer}
 use Rattle.tp_rules.specs.Acts.{Act, Client, Identity, SessionOf}
 use Rattle.tp_rules.specs.Session.{SessionState, open_count, state_after}
-use Rattle.tp_rules.specs.Tables.{nth}
 use Rattle.tp_session.specs.declared.session.Session.{Session}
 
 -- what a session was made with

@@ -1,5 +1,6 @@
 ghost use Rattle.std.specs.Prelude.{◌≡◌, ◌≤◌, ◌&&◌, Some, IfOk, is_none, take};
-ghost use Rattle.tp_ops.specs.Parts.{is_accessed, kept_in};
+ghost use Rattle.tp_base.specs.Tables.{kept_at};
+ghost use Rattle.tp_ops.specs.Parts.{is_accessed};
 ghost use Rattle.tp_rules.specs.Addresses.{is_site_of};
 ghost use Rattle.tp_rules.specs.Session.{is_awaited, is_whole, merged_reply};
 
@@ -24,7 +25,7 @@ fn lacks(partitions: u8, parts: &Parts, command: &Command, p: PartitionId) -> bo
     requires few { partitions ≤ 4 }
     requires from { 1 ≤ p.0 }
     requires to { p.0 ≤ 4 }
-    ensures { result ≡ (is_accessed partitions command.now p.0 && is_none (kept_in parts.now p.0)) }
+    ensures { result ≡ (is_accessed partitions command.now p.0 && is_none (kept_at parts.now p.0)) }
 {
     accesses(command, partitions, p) && parts.get(p).is_none()
 }

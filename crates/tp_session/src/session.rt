@@ -1,8 +1,7 @@
-ghost use Rattle.std.specs.Prelude.{List, ◌≡◌, ◌<◌, ◌≤◌, ◌^◌, ◌+◌, ◌-◌, ◌∷◌, ◌++◌, ◌==◌, ◌&&◌, [], None, cond, false, nat_le, length, replicate, slice_set, vec_len, IfOk, OnOk, OnErr};
+ghost use Rattle.std.specs.Prelude.{List, ◌≡◌, ◌<◌, ◌≤◌, ◌^◌, ◌+◌, ◌-◌, ◌∷◌, ◌++◌, ◌==◌, ◌&&◌, [], Some, None, cond, false, nat_le, length, replicate, slice_set, vec_len, IfOk, OnOk, OnErr};
 ghost use Rattle.std.specs.Option.{option_copied};
-ghost use Rattle.tp_ops.specs.Parts.{kept_in, with_part};
+ghost use Rattle.tp_base.specs.Tables.{kept_at, nth, with_nth};
 ghost use Rattle.tp_rules.specs.Session.{SessionState, is_awaited, is_whole, on_message, on_result, on_submit, submissions, reply, state_after};
-ghost use Rattle.tp_rules.specs.Tables.{nth};
 ghost use Rattle.tp_wire.specs.Ranges.{IsInRange};
 
 use crate::answered::{is_awaited, is_site_of, is_whole, reply_of};
@@ -154,9 +153,9 @@ impl Session {
         requires high { n ≤ length self.old.kept.items }
         requires from { 1 ≤ q.0 }
         requires to { q.0 ≤ 4 }
-        requires first { kept_in (parts_at self.old.kept.items n) q.0 ≡ None }
+        requires first { kept_at (parts_at self.old.kept.items n) q.0 ≡ None }
         ensures identity { identity self.new ≡ identity self.old }
-        ensures kept { self.new.kept.items ≡ slice_set self.old.kept.items (n - 1) (with_part (parts_at self.old.kept.items n) q.0 answers) }
+        ensures kept { self.new.kept.items ≡ slice_set self.old.kept.items (n - 1) (with_nth (parts_at self.old.kept.items n) q.0 (Some answers)) }
         ensures unanswered { self.new.unanswered ≡ cond (is_whole self.old.topology (table self.new n) (nth self.old.commands n)) (self.old.unanswered - 1) self.old.unanswered }
     {
         self.kept[n as usize - 1].put(q, answers);

@@ -5,11 +5,11 @@ use Rattle.std.specs.List.{list_all}
 use Rattle.std.proofs.lemmas.List.{append-nil, map-append}
 use Rattle.std.proofs.lemmas.List.Elements.{filter-append}
 use Rattle.std.proofs.lemmas.List.Folds.{list_all-append}
+use Rattle.tp_base.specs.Tables.{kept_at}
 use Rattle.tp_quorum.specs.Choice.{present, greatest}
 use Rattle.tp_ops.specs.declared.command.Command.{Command}
 use Rattle.tp_rules.specs.Addresses.{accessed}
 use Rattle.tp_rules.specs.Sheet.{greatest_known}
-use Rattle.tp_rules.specs.Tables.{kept_at}
 use Rattle.tp_topology.specs.Counting.{up_to}
 use Rattle.tp_topology.specs.Shape.{Shape}
 use Rattle.tp_sheet.specs.SiteSheet.{SiteSheet, final_of}

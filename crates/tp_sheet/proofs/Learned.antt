@@ -2,10 +2,10 @@
 use Rattle.std.proofs.Common.{◌≡◌, ℕ, Bool, true, false, ◌&&◌, cond, List, take, Option, Some, None, is_none, is_some, refl, sym, ap, ◌∙◌, arith}
 use Rattle.std.specs.Bool.{OnFalse, OnTrue}
 use Rattle.std.specs.Prelude.{nat_le}
-use Rattle.tp_quorum.specs.Gathered.{stamp_at, with_stamp_at}
+use Rattle.tp_base.proofs.Tables.{kept_at-take, past-kept, past-written, take-with_nth}
+use Rattle.tp_base.specs.Tables.{kept_at, with_nth}
 use Rattle.tp_rules.specs.Sheet.{stamp_of, with_stamp}
-use Rattle.tp_rules.specs.Tables.{kept_at, with_nth}
-use Rattle.tp_sheet.proofs.Tables.{past-kept, past-written, stamp_at-front, take-with_stamp_at, within}
+use Rattle.tp_sheet.proofs.Tables.{within}
 use Rattle.tp_sheet.specs.SiteSheet.{SiteSheet, with_known, with_sheet}
 
 -- past the partitions of the shape none is known, and none is kept
@@ -24,8 +24,8 @@ known_past kept n table q t e outside =
 
 -- of a partition of the shape the first stamp is kept
 
-pub new_put : (n : ℕ) (table : List (Option ℕ)) (q : ℕ) → (nat_le 1 q && nat_le q n) ≡ true → is_none (stamp_at table q) ≡ is_none (kept_at (take n table) q)
-new_put n table q inside = ap (λ (o : Option ℕ). is_none o) (stamp_at-front n table q (within n q inside))
+pub new_put : (n : ℕ) (table : List (Option ℕ)) (q : ℕ) → (nat_le 1 q && nat_le q n) ≡ true → is_none (kept_at table q) ≡ is_none (kept_at (take n table) q)
+new_put n table q inside = ap (λ (o : Option ℕ). is_none o) (sym (kept_at-take n table q (within n q inside)))
 
 abbrev knowing : List (Option ℕ) → SiteSheet → SiteSheet
 knowing known kept = with_sheet (record kept.sheet { known = known }) kept
@@ -39,9 +39,9 @@ by_first kept table q t r (Some n) e f =
     ap (λ (b : Bool). cond b (knowing (with_nth table q (Some t)) kept) (knowing table kept)) f
     ∙ ap (λ (o : Option ℕ). with_sheet (cond (is_some o) (record kept.sheet { known = table }) (with_stamp q t (record kept.sheet { known = table }))) kept) (sym e)
 
-written : (n : ℕ) (table new : List (Option ℕ)) (q t : ℕ) (r : Bool) → OnTrue r (new ≡ with_stamp_at table q t) → OnFalse r (new ≡ table)
+written : (n : ℕ) (table new : List (Option ℕ)) (q t : ℕ) (r : Bool) → OnTrue r (new ≡ with_nth table q (Some t)) → OnFalse r (new ≡ table)
     → take n new ≡ cond r (with_nth (take n table) q (Some t)) (take n table)
-written n table new q t true first again = ap (λ (known : List (Option ℕ)). take n known) first ∙ take-with_stamp_at n table q t
+written n table new q t true first again = ap (λ (known : List (Option ℕ)). take n known) first ∙ take-with_nth n table q (Some t)
 written n table new q t false first again = ap (λ (known : List (Option ℕ)). take n known) again
 
 either : (kept : SiteSheet) (one other : List (Option ℕ)) (r : Bool) → knowing (cond r one other) kept ≡ cond r (knowing one kept) (knowing other kept)
@@ -49,7 +49,7 @@ either kept one other true = refl
 either kept one other false = refl
 
 pub known_put : (kept : SiteSheet) (n : ℕ) (table new : List (Option ℕ)) (q t : ℕ) (r : Bool) → (nat_le 1 q && nat_le q n) ≡ true
-    → r ≡ is_none (stamp_at table q) → OnTrue r (new ≡ with_stamp_at table q t) → OnFalse r (new ≡ table)
+    → r ≡ is_none (kept_at table q) → OnTrue r (new ≡ with_nth table q (Some t)) → OnFalse r (new ≡ table)
     → knowing (take n new) kept ≡ with_known q t (knowing (take n table) kept)
 known_put kept n table new q t r inside e first again =
     ap (λ (known : List (Option ℕ)). knowing known kept) (written n table new q t r first again)

@@ -1,8 +1,8 @@
 ghost use Rattle.std.specs.Bool.{OnFalse, OnTrue};
 ghost use Rattle.std.specs.Prelude.{◌≡◌, ◌≤◌, ◌==◌, ◌&&◌, cond, is_none, length, nat_lt};
+ghost use Rattle.tp_base.specs.Tables.{kept_at};
 ghost use Rattle.tp_quorum.specs.Choice.{present};
 ghost use Rattle.tp_rules.specs.Sheet.{acknowledged, can_acknowledge, is_made_by_proposal, is_member, ring_rule, stamp_of};
-ghost use Rattle.tp_rules.specs.Tables.{kept_at};
 ghost use Rattle.tp_sheet.specs.SiteSheet.{choice_after_ack, choice_where_full, is_gathering, with_acknowledgement, with_own_ack, with_sheet};
 
 use crate::sheet::Sheet;

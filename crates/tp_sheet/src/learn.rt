@@ -1,8 +1,8 @@
 ghost use Rattle.std.specs.Prelude.{◌≡◌, ◌≤◌, is_none, map, take};
 ghost use Rattle.std.specs.Option.{option_map};
+ghost use Rattle.tp_base.specs.Tables.{kept_at};
 ghost use Rattle.tp_rules.specs.Addresses.{accessed};
 ghost use Rattle.tp_rules.specs.Sheet.{greatest_known as greatest_of_known, stamp_of};
-ghost use Rattle.tp_rules.specs.Tables.{kept_at};
 ghost use Rattle.tp_sheet.specs.SiteSheet.{final_after_learning, final_of, with_known};
 
 use crate::sheet::{Sheet, is_partition};

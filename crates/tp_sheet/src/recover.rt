@@ -1,9 +1,9 @@
 ghost use Rattle.std.specs.Prelude.{◌≡◌, ◌≤◌, ◌&&◌, true, is_none, is_some, length};
 ghost use Rattle.std.specs.Option.{option_map};
 ghost use Rattle.tp_base.specs.Lists.{Each};
+ghost use Rattle.tp_base.specs.Tables.{kept_at};
 ghost use Rattle.tp_rules.specs.Process.{has_next};
 ghost use Rattle.tp_rules.specs.Sheet.{can_answer, made_of, stamp_of, stamp_told, trying, with_answer};
-ghost use Rattle.tp_rules.specs.Tables.{kept_at};
 ghost use Rattle.tp_sheet.specs.SiteSheet.{answer_of, ballot_by, home_of, promise_by, choice_after_answer, recovery_where_full, with_answer_of, with_promise, with_sheet, with_try};
 ghost use Rattle.tp_sheet.specs.View.{IsRanked};
 ghost use Rattle.tp_topology.specs.Ballots.{next_ballot as next_ballot_of};

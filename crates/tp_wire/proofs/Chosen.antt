@@ -2,9 +2,10 @@
 use Rattle.std.proofs.Common.{◌≡◌, ℕ, zero, suc, ◌+◌, ◌<◌, List, [], ◌∷◌, ◌++◌, Option, Some, None, Ok, sym, ap, subst, ◌∙◌, arith}
 use Rattle.std.specs.List.{slice_get}
 use Rattle.tp_base.specs.Fields.{At, IsBytes, left}
+use Rattle.tp_base.specs.Tables.{nth}
 use Rattle.tp_text.specs.Steps.{◌>>=◌}
 use Rattle.tp_text.proofs.Stepped.{bind_ok}
-use Rattle.tp_wire.specs.Meaning.{Reader, choice_at, fault_at, nth, or_fault, value_at}
+use Rattle.tp_wire.specs.Meaning.{Reader, choice_at, fault_at, or_fault, value_at}
 use Rattle.tp_wire.specs.Spelling.{byte}
 use Rattle.tp_wire.specs.declared.fault.WireCause.{WireCause}
 use Rattle.tp_wire.specs.declared.fault.WireFault.{WireFault}
@@ -25,7 +26,7 @@ pub record IsChosen {M : Type 0} (text : M → List ℕ) (readers : List (Reader
   pub n : ℕ
   pub small : n < 256
   pub reader : Reader M
-  pub there : nth n readers ≡ Some reader
+  pub there : nth readers n ≡ Some reader
   pub rest : List ℕ
   pub spelled : text m ≡ n ∷ rest
   pub again : (at : At) (behind : List ℕ) → left at ≡ rest ++ behind → IsRead reader at m behind
@@ -51,7 +52,7 @@ nth_case text Fits k (suc i) (r ∷ readers) reader cases e =
     subst (λ (n : ℕ). IsCase text Fits n reader) there (nth_case text Fits (suc k) i readers reader cases.1 e)
 
 case_at : {M : Type 0} (text : M → List ℕ) (Fits : M → Type 0) (n : ℕ) (readers : List (Reader M)) (reader : Reader M)
-    → AreCases text Fits 1 readers → nth n readers ≡ Some reader → IsCase text Fits n reader
+    → AreCases text Fits 1 readers → nth readers n ≡ Some reader → IsCase text Fits n reader
 case_at text Fits zero readers reader cases e = absurd cc
 case_at text Fits (suc i) readers reader cases e =
     let here : 1 + i ≡ suc i = omega arith in
@@ -69,9 +70,9 @@ pub choice_field : {M : Type 0} (cause : WireCause) (readers : List (Reader M)) 
 unfolding choice_at
 choice_field cause readers text Fits cases chosen = record {
   takes = λ at x fits e.
-      let step = bind_ok (value_at 1 at) (λ b. or_fault (fault_at cause at) (nth b.0 readers) >>= λ reader. reader b.1) x e in
-      let inner = bind_ok (or_fault (fault_at cause at) (nth step.0.0 readers)) (λ reader. reader step.0.1) x step.2 in
-      let there = or_ok (fault_at cause at) (nth step.0.0 readers) inner.0 inner.1 in
+      let step = bind_ok (value_at 1 at) (λ b. or_fault (fault_at cause at) (nth readers b.0) >>= λ reader. reader b.1) x e in
+      let inner = bind_ok (or_fault (fault_at cause at) (nth readers step.0.0)) (λ reader. reader step.0.1) x step.2 in
+      let there = or_ok (fault_at cause at) (nth readers step.0.0) inner.0 inner.1 in
       let first = any_byte_field.takes at step.0 fits step.1 in
       let behind = (case_at text Fits step.0.0 readers inner.0 cases there).takes step.0.1 x (subst (λ (bytes : List ℕ). IsBytes bytes) (sym first.0.input) fits) inner.2 in
       (respelt at x.1 (text x.0) (step.0.0 ∷ behind.0) behind.1 (takes_then at (byte step.0.0) step.0.1 behind.0 x.1 first.0 behind.2), behind.3);

@@ -1,19 +1,14 @@
--- The loops that read so many of a kind give what the definitions give; and no reader is behind the last of a list.
-use Rattle.std.proofs.Common.{◌≡◌, ℕ, suc, zero, ◌-◌, ◌+◌, ◌≤◌, ◌<◌, List, [], ◌∷◌, ◌++◌, length, None, Result, Ok, Err, refl, sym, ap, ◌∙◌, append_assoc, arith}
+-- The loops that read so many of a kind give what the definitions give.
+use Rattle.std.proofs.Common.{◌≡◌, ℕ, suc, ◌-◌, ◌+◌, ◌≤◌, ◌<◌, List, [], ◌∷◌, ◌++◌, Result, Ok, Err, refl, sym, ap, ◌∙◌, append_assoc, arith}
 use Rattle.std.proofs.lemmas.List.{append-nil}
-use Rattle.std.proofs.lemmas.Option.{slice_get_past}
 use Rattle.tp_base.specs.Fields.{At}
 use Rattle.tp_base.specs.declared.names.Pair.{Pair}
 use Rattle.tp_text.specs.Steps.{◌>>=◌}
-use Rattle.tp_wire.specs.Meaning.{Reader, nth, pair_at, pairs_from, times_at}
+use Rattle.tp_wire.specs.Meaning.{Reader, pair_at, pairs_from, times_at}
 use Rattle.tp_wire.specs.Reading.{Fails}
 use Rattle.tp_wire.specs.declared.fault.WireError.{WireError}
 use Rattle.tp_wire.specs.declared.fault.WireError.TheVariants as errors
 use Rattle.tp_wire.specs.declared.fault.WireFault.{WireFault}
-
-pub nth_past : {X : Type 0} (n : ℕ) (xs : List X) → length xs < n → nth n xs ≡ None
-nth_past zero xs past = refl
-nth_past (suc n) xs past = slice_get_past xs n (omega arith)
 
 -- what was read before, and what is still read
 abbrev pub with_front : {A : Type 0} → List A → Result (List A × At) WireFault → Result (List A × At) WireFault

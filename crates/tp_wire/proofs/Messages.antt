@@ -2,6 +2,7 @@
 use Rattle.std.proofs.Common.{◌≡◌, ℕ, ◌+◌, ◌-◌, ◌≤◌, ◌<◌, List, ◌∷◌, length, Some, refl, ap, arith}
 use Rattle.tp_base.specs.Limits.{IsFrom, IsId}
 use Rattle.tp_base.specs.Lists.{Each}
+use Rattle.tp_base.specs.Tables.{nth}
 use Rattle.tp_base.specs.declared.names.ActorName.{ActorName}
 use Rattle.tp_base.specs.declared.names.CommandId.{CommandId}
 use Rattle.tp_base.specs.declared.names.Made.{Made}
@@ -11,7 +12,7 @@ use Rattle.tp_base.specs.declared.names.Stamp.{Stamp}
 use Rattle.tp_ops.specs.Limits.{IsAnswer, IsCommand}
 use Rattle.tp_ops.specs.declared.command.Command.{Command}
 use Rattle.tp_ops.specs.declared.operation.Answer.{Answer}
-use Rattle.tp_wire.specs.Meaning.{Reader, bump_at, commit_at, committed_at, consensus_ack_at, consensus_at, kinds, message_at, most, nth, payload_at, promises_at, propose_ack_at, propose_at, rec_ack_at, rec_at, result_at, sent, stable_at, submit_at}
+use Rattle.tp_wire.specs.Meaning.{Reader, bump_at, commit_at, committed_at, consensus_ack_at, consensus_at, kinds, message_at, most, payload_at, promises_at, propose_ack_at, propose_at, rec_ack_at, rec_at, result_at, sent, stable_at, submit_at}
 use Rattle.tp_wire.specs.Ranges.{IsAttached, IsBody, IsClient, IsExecutor, IsInRange, IsNumber, IsProcess}
 use Rattle.tp_wire.specs.Spelling.{actor, bytes_of, fields_of, joined, kind_of}
 use Rattle.tp_wire.specs.declared.fault.WireCause.TheVariants.{Kind}
@@ -30,7 +31,7 @@ record IsSent {B : Type 0} (reader : Reader Message) (From To : ActorName → Ty
 
 -- a message is read by the reader of its kind
 by_kind : {B : Type 0} {reader : Reader Message} {From To : ActorName → Type 0} {make : B → Body} {AllFit : B → Type 0} (n : ℕ)
-    → IsSent reader From To make AllFit → n < 256 → nth n kinds ≡ Some reader
+    → IsSent reader From To make AllFit → n < 256 → nth kinds n ≡ Some reader
     → (from to : ActorName) (b : B) → kind_of (make b) ≡ n → From from × (To to × AllFit b) → IsChosen bytes_of kinds (sent from to (make b))
 unfolding bytes_of
 by_kind {make} n law small there from to b kind fits = record {

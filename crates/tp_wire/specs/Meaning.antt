@@ -1,8 +1,8 @@
 -- What bytes say: a message, or the first fault from the left with its place. Each field names where it begins, so no
 -- place is reckoned.
-use Rattle.std.specs.List.{slice_get}
 use Rattle.std.specs.Prelude.{ℕ, zero, suc, ◌+◌, ◌-◌, ◌^◌, ◌==◌, ◌&&◌, nat_le, Bool, if◌then◌else◌, List, [], ◌∷◌, length, take, min, Option, Some, None, Result, Ok, Err}
 use Rattle.tp_base.specs.Fields.{At, big_endian_value, left, past}
+use Rattle.tp_base.specs.Tables.{nth}
 use Rattle.tp_base.specs.declared.names.ActorName.{ActorName}
 use Rattle.tp_base.specs.declared.names.ActorName.TheVariants.{Process, Executor, Session}
 use Rattle.tp_base.specs.declared.names.CommandId.{CommandId}
@@ -62,11 +62,6 @@ text_at low high at = do
   len ← number_at 1 low high at
   bytes_at len.0 len.1
 
--- the n-th, from 1 on
-abbrev pub nth : {X : Type 0} → ℕ → List X → Option X
-nth zero xs = None
-nth (suc n) xs = slice_get xs n
-
 abbrev pub or_fault : {X : Type 0} → WireFault → Option X → Result X WireFault
 or_fault fault None = Err fault
 or_fault fault (Some x) = Ok x
@@ -75,7 +70,7 @@ or_fault fault (Some x) = Ok x
 unfoldable pub choice_at : {A : Type 0} → WireCause → List (Reader A) → Reader A
 choice_at cause readers at = do
   byte ← value_at 1 at
-  reader ← or_fault (fault_at cause at) (nth byte.0 readers)
+  reader ← or_fault (fault_at cause at) (nth readers byte.0)
   reader byte.1
 
 -- so many, one after the other

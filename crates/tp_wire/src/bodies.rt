@@ -246,7 +246,7 @@ fn take_result(alloc: Global, cut: &mut Cut) -> Result<Message, WireError>
 }
 
 /// The next message: a kind, and what is said in it.
-#[tactic(auto, using(crate::proofs::Counted::nth_past), unfolding(crate::specs::Meaning::message_at, crate::specs::Meaning::choice_at))]
+#[tactic(auto, using(tp_base::proofs::Tables::nth_past), unfolding(crate::specs::Meaning::message_at, crate::specs::Meaning::choice_at))]
 pub(crate) fn take_message(alloc: Global, cut: &mut Cut) -> Result<Message, WireError>
     ensures { Gives (λ m. (m, cut.new)) result (message_at cut.old) }
 {

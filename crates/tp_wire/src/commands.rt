@@ -44,7 +44,7 @@ fn take_cas(alloc: Global, cut: &mut Cut) -> Result<Op, WireError>
     Ok(Op::Cas { key, old, new })
 }
 
-#[tactic(auto, using(crate::proofs::Counted::nth_past), unfolding(crate::specs::Meaning::op_at, crate::specs::Meaning::choice_at))]
+#[tactic(auto, using(tp_base::proofs::Tables::nth_past), unfolding(crate::specs::Meaning::op_at, crate::specs::Meaning::choice_at))]
 fn take_op(alloc: Global, cut: &mut Cut) -> Result<Op, WireError>
     ensures { Gives (λ op. (op, cut.new)) result (op_at cut.old) }
 {
@@ -100,7 +100,7 @@ fn take_value_answer(alloc: Global, cut: &mut Cut) -> Result<Answer, WireError>
     Ok(Answer::Value(value))
 }
 
-#[tactic(auto, using(crate::proofs::Counted::nth_past), unfolding(crate::specs::Meaning::answer_at, crate::specs::Meaning::choice_at))]
+#[tactic(auto, using(tp_base::proofs::Tables::nth_past), unfolding(crate::specs::Meaning::answer_at, crate::specs::Meaning::choice_at))]
 fn take_answer(alloc: Global, cut: &mut Cut) -> Result<Answer, WireError>
     ensures { Gives (λ answer. (answer, cut.new)) result (answer_at cut.old) }
 {

@@ -1,7 +1,7 @@
 use Rattle.std.proofs.Common.{◌≡◌, ◌++◌, List, Option, is_some, unwrap_or, sym, ap, ◌∙◌}
 use Rattle.std.specs.Option.{option_copied}
+use Rattle.tp_base.specs.Tables.{kept_at}
 use Rattle.tp_base.specs.declared.names.CommandId.{CommandId}
-use Rattle.tp_ops.specs.Parts.{kept_in}
 use Rattle.tp_ops.specs.declared.operation.Answer.{Answer}
 use Rattle.tp_print.proofs.Rows.{reply_at, unwrap_copied}
 use Rattle.tp_print.specs.Report.{reply_line}
@@ -14,7 +14,7 @@ use Rattle.tp_print.proofs.replies.put_place.Goals as goal
 kept : (c : goal.In_ok-told) (older : List Entry) → AreFirst older c.args.results.now
     → AreKept c.unwrap_or-first.result.now (first_result older c.in-Some.command.now.id)
 kept c older first = λ p low high.
-    ap (λ (table : ByPartition). kept_in table p)
+    ap (λ (table : ByPartition). kept_at table p)
     (unwrap_copied c.get.result _ c.unwrap_or-first.result none_kept c.unwrap_or-first.ensures c.new-none.ensures
     ∙ ap (λ (o : Option ByPartition). unwrap_or o none_kept) c.get.ensures.value)
     ∙ first c.in-Some.command.now.id p low high

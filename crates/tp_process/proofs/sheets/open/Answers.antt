@@ -1,8 +1,9 @@
 use Rattle.std.proofs.Common.{◌≡◌, false, sym, ◌∙◌}
 use Rattle.std.specs.Prelude.{is_some}
 use Rattle.indexmap.specs.IndexMap.{get}
+use Rattle.tp_base.proofs.Options.{absent}
 use Rattle.tp_base.specs.Names.{same_id}
-use Rattle.tp_process.proofs.Tables.{absent, opened}
+use Rattle.tp_process.proofs.Tables.{opened}
 use Rattle.tp_process.proofs.sheets.open.Goals as goal
 
 pub returns-in_ok-insert : goal.returns-in_ok-insert

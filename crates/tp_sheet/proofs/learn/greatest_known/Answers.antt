@@ -1,10 +1,10 @@
 use Rattle.std.proofs.Common.{◌≡◌, ◌-◌, ◌≤◌, take, true, false, Option, Some, None, sym, ap, ◌∙◌, arith}
 use Rattle.std.specs.Option.{option_map}
+use Rattle.tp_base.proofs.Tables.{kept_at-take}
+use Rattle.tp_base.specs.Tables.{kept_at}
 use Rattle.tp_base.specs.declared.names.Stamp.{Stamp}
 use Rattle.tp_ops.specs.Parts.{is_accessed}
-use Rattle.tp_rules.specs.Tables.{kept_at}
 use Rattle.tp_sheet.proofs.Known.{all_known, greatest_skip, greatest_take, missing}
-use Rattle.tp_sheet.proofs.Tables.{stamp_at-front}
 use Rattle.tp_sheet.proofs.learn.greatest_known.Goals as goal
 use Rattle.tp_sheet.proofs.learn.greatest_known.Goals.{then-accesses+in_ok-stamp+then-greatest-stamp, then-accesses+in_ok-stamp+else-greatest-stamp, else-accesses}
 
@@ -14,7 +14,7 @@ returns-in_err-stamp c =
     let passes : is_accessed n c.args.command.now c.loop-partition.partition ≡ true = cc in
     let few : c.loop-partition.partition ≤ n = omega arith in
     let gone : kept_at (take n c.args.known.now) c.loop-partition.partition ≡ None =
-    sym (stamp_at-front n c.args.known.now c.loop-partition.partition few) ∙ sym c.get.ensures ∙ ap (λ (o : Option Stamp). option_map (λ t. t.0) o) c.in_err-stamp.was in
+    kept_at-take n c.args.known.now c.loop-partition.partition few ∙ sym c.get.ensures ∙ ap (λ (o : Option Stamp). option_map (λ t. t.0) o) c.in_err-stamp.was in
     let none = missing (λ q. kept_at (take n c.args.known.now) q) (is_accessed n c.args.command.now) _ _ c.loop-partition.auto.partition few passes gone in
     rw c.from_residual.ensures (sym none)
 
@@ -22,17 +22,17 @@ pub loop-partition-preserved : goal.loop-partition-preserved
 loop-partition-preserved c =
     let n = c.args.topology.now.partitions in
     let few : c.loop-partition.partition ≤ n = omega arith in
-    let front = stamp_at-front n c.args.known.now c.loop-partition.partition few in
+    let front = kept_at-take n c.args.known.now c.loop-partition.partition few in
     elim c.if-accesses.branch [
       | then-accesses+in_ok-stamp+then-greatest-stamp w ↦
           let passes : is_accessed n c.args.command.now c.loop-partition.partition ≡ true = cc in
           let there : kept_at (take n c.args.known.now) c.loop-partition.partition ≡ Some w.in_ok-stamp.stamp.0 =
-          sym front ∙ sym w.get.ensures ∙ ap (λ (o : Option Stamp). option_map (λ t. t.0) o) w.in_ok-stamp.was in
+          front ∙ sym w.get.ensures ∙ ap (λ (o : Option Stamp). option_map (λ t. t.0) o) w.in_ok-stamp.was in
           greatest_take _ _ c.loop-partition.partition c.loop-partition.greatest w.in_ok-stamp.stamp.0 c.if-accesses.greatest c.loop-partition.auto.partition passes there (omega arith) c.loop-partition.invariant
       | then-accesses+in_ok-stamp+else-greatest-stamp w ↦
           let passes : is_accessed n c.args.command.now c.loop-partition.partition ≡ true = cc in
           let there : kept_at (take n c.args.known.now) c.loop-partition.partition ≡ Some w.in_ok-stamp.stamp.0 =
-          sym front ∙ sym w.get.ensures ∙ ap (λ (o : Option Stamp). option_map (λ t. t.0) o) w.in_ok-stamp.was in
+          front ∙ sym w.get.ensures ∙ ap (λ (o : Option Stamp). option_map (λ t. t.0) o) w.in_ok-stamp.was in
           greatest_take _ _ c.loop-partition.partition c.loop-partition.greatest w.in_ok-stamp.stamp.0 c.if-accesses.greatest c.loop-partition.auto.partition passes there (omega arith) c.loop-partition.invariant
       | else-accesses w ↦
           let fails : is_accessed n c.args.command.now c.loop-partition.partition ≡ false = cc in

@@ -1,6 +1,6 @@
+use Rattle.tp_base.specs.Tables.{kept_at}
 use Rattle.tp_ops.specs.Parts.{is_accessed}
 use Rattle.std.proofs.Common.{◌-◌, take}
-use Rattle.tp_rules.specs.Tables.{kept_at}
 use Rattle.tp_sheet.proofs.Known.{IsGreatest}
 use Rattle.tp_sheet.proofs.learn.greatest_known.Given as goal
 

@@ -1,5 +1,6 @@
-use Rattle.std.proofs.Common.{ℕ, List, Option, take, ap, ◌∙◌}
-use Rattle.tp_sheet.proofs.Tables.{take-with_stamp_at, where_true}
+use Rattle.std.proofs.Common.{ℕ, List, Option, Some, take, ap, ◌∙◌}
+use Rattle.tp_base.proofs.Tables.{take-with_nth}
+use Rattle.tp_sheet.proofs.Tables.{where_true}
 use Rattle.tp_sheet.specs.SiteSheet.{with_sheet}
 use Rattle.tp_sheet.specs.View.{view_of}
 use Rattle.tp_sheet.proofs.sheet.Sheet.gather.Goals as goal
@@ -11,5 +12,5 @@ returns-clause-kept c =
     where_true c.put.result (λ kept.
     rw (← c.self.view_is)
     (ap (λ (table : List (Option ℕ)). with_sheet (record old.sheet { acknowledged = table }) old)
-    (ap (λ (table : List (Option ℕ)). take replicas table) kept ∙ take-with_stamp_at replicas c.self.inside.gathered c.args.rank.0 c.args.stamp.0)))
+    (ap (λ (table : List (Option ℕ)). take replicas table) kept ∙ take-with_nth replicas c.self.inside.gathered c.args.rank.0 (Some c.args.stamp.0))))
     c.put.ensures.kept

@@ -1,6 +1,7 @@
 use Rattle.std.proofs.Common.{sym, ap, ◌∙◌}
+use Rattle.tp_base.proofs.Tables.{kept_at-take, past-kept}
 use Rattle.tp_rules.specs.Sheet.{stamp_of}
-use Rattle.tp_sheet.proofs.Tables.{past-kept, stamp_at-front, within}
+use Rattle.tp_sheet.proofs.Tables.{within}
 use Rattle.tp_sheet.specs.SiteSheet.{SiteSheet}
 use Rattle.tp_sheet.proofs.sheet.Sheet.stamp.Goals as goal
 
@@ -12,6 +13,6 @@ returns-then-not-is_partition c =
 pub returns : goal.returns
 returns c =
     c.get.ensures
-    ∙ stamp_at-front c.self.inside.topology.partitions c.self.inside.known c.args.partition.0
-    (within c.self.inside.topology.partitions c.args.partition.0 (sym c.is_partition.ensures ∙ c.if-not-is_partition.false))
+    ∙ sym (kept_at-take c.self.inside.topology.partitions c.self.inside.known c.args.partition.0
+    (within c.self.inside.topology.partitions c.args.partition.0 (sym c.is_partition.ensures ∙ c.if-not-is_partition.false)))
     ∙ ap (λ (kept : SiteSheet). stamp_of kept.sheet c.args.partition.0) c.self.view_is
