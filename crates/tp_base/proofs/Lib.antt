@@ -5,6 +5,7 @@ pub mod Members
 pub mod Options
 pub mod Orders
 pub mod Prefixes
+pub mod Ranges
 pub mod Reading
 pub mod SameNames
 pub mod Tables

@@ -1,5 +1,5 @@
 -- The ranges of names and of stamps.
-use Rattle.std.specs.Prelude.{ℕ, ◌^◌, ◌≤◌}
+use Rattle.std.specs.Prelude.{ℕ, ◌^◌, ◌≤◌, ◌&&◌, nat_le, Bool}
 use Rattle.tp_base.specs.declared.names.CommandId.{CommandId}
 use Rattle.tp_base.specs.declared.names.SessionId.{SessionId}
 use Rattle.tp_base.specs.declared.names.Site.{Site}
@@ -11,6 +11,10 @@ STAMP_LIMIT = 2 ^ 48
 -- from low to high
 abbrev pub IsFrom : ℕ → ℕ → ℕ → Type 0
 IsFrom low high n = (low ≤ n) × (n ≤ high)
+
+-- the test for it
+abbrev pub is_from : ℕ → ℕ → ℕ → Bool
+is_from low high n = nat_le low n && nat_le n high
 
 abbrev pub IsSite : Site → Type 0
 IsSite site = IsFrom 1 4 site.partition.0 × IsFrom 1 7 site.rank.0

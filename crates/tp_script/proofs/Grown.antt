@@ -7,7 +7,8 @@ use Rattle.std.proofs.lemmas.Bool.{and_parts, eqb-true, leb-true, ltb-true}
 use Rattle.std.proofs.lemmas.List.{append-nil, map_push}
 use Rattle.std.proofs.lemmas.List.Elements.{filter-append}
 use Rattle.std.proofs.lemmas.Option.{slice_get_within}
-use Rattle.tp_base.specs.Limits.{IsFrom}
+use Rattle.tp_base.proofs.Ranges.{in_range}
+use Rattle.tp_base.specs.Limits.{IsFrom, is_from}
 use Rattle.tp_base.specs.Lists.{Each}
 use Rattle.tp_base.specs.declared.names.Rank.{Rank}
 use Rattle.tp_base.proofs.Each.{each_in, each_push}
@@ -17,12 +18,12 @@ use Rattle.tp_ops.specs.declared.command.Command.{Command}
 use Rattle.tp_ops.specs.declared.operation.Op.{Op}
 use Rattle.tp_script.specs.Accepted.{AreNumbered, IsAccepted, IsCommandOf, IsHome, commands_by}
 use Rattle.tp_script.specs.Grammar.{command_line, declared, home_of, next_command, next_number, ops_and_count, room, session_line}
-use Rattle.tp_script.specs.Kinds.{IsSaid, Kind, Said, AllSaid, count, is_from, kinds, row, take_word}
+use Rattle.tp_script.specs.Kinds.{IsSaid, Kind, Said, AllSaid, count, kinds, row, take_word}
 use Rattle.tp_script.specs.Print.{body, command_words, ops_words, session_lines, session_words}
 use Rattle.tp_script.specs.declared.fault.ScriptCause.{ScriptCause}
 use Rattle.tp_script.specs.declared.fault.ScriptCause.TheVariants.{Limit, Session}
 use Rattle.tp_script.specs.declared.script.Script.{Script}
-use Rattle.tp_script.proofs.Kinded.{IsKind, in_range, laws}
+use Rattle.tp_script.proofs.Kinded.{IsKind, laws}
 use Rattle.tp_script.proofs.OpsWritten.{counted_take}
 use Rattle.tp_text.specs.Rows.{words_of_row}
 use Rattle.tp_text.specs.Steps.{◌>>=◌, need}

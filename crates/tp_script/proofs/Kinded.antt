@@ -1,12 +1,13 @@
 -- The laws of each kind of word: what is read is written so, what is written is read, and no space stands in it.
-use Rattle.std.proofs.Common.{◌≡◌, ◌==◌, ℕ, ◌^◌, ◌<◌, ◌≤◌, ◌⊎◌, inl, inr, Bool, true, false, cond, leb, List, [], ◌∷◌, ◌++◌, length, Option, Some, None, Ok, Err, refl, sym, ap, subst, ◌∙◌, arith}
+use Rattle.std.proofs.Common.{◌≡◌, ◌==◌, ℕ, ◌^◌, ◌<◌, ◌≤◌, ◌⊎◌, inl, inr, Bool, true, false, cond, List, [], ◌∷◌, ◌++◌, length, Option, Some, None, Ok, Err, refl, sym, ap, subst, ◌∙◌, arith}
 use Rattle.hex.specs.Hex.{encode_lower, lower_digits}
 use Rattle.hex.proofs.HexLemmas.{length-encode_with}
 use Rattle.std.specs.Fmt.{decimal}
 use Rattle.std.specs.Prelude.{codes}
 use Rattle.std.specs.Str.{bytes_eq}
-use Rattle.std.proofs.lemmas.Bool.{and_parts, eqb-true, leb-true, le-leb, or_cases}
-use Rattle.tp_base.specs.Limits.{IsFrom, IsId}
+use Rattle.std.proofs.lemmas.Bool.{and_parts, eqb-true, or_cases}
+use Rattle.tp_base.proofs.Ranges.{in_range, range_in}
+use Rattle.tp_base.specs.Limits.{IsId, is_from}
 use Rattle.tp_base.specs.Lists.{Each}
 use Rattle.tp_base.specs.Names.{same_id}
 use Rattle.tp_base.specs.declared.names.ActorName.{ActorName}
@@ -16,7 +17,7 @@ use Rattle.tp_base.specs.declared.names.Site.{Site}
 use Rattle.tp_ops.specs.Limits.{IsText, IsValue}
 use Rattle.tp_ops.specs.declared.command.Command.{Command}
 use Rattle.tp_script.specs.Accepted.{IsSiteOf}
-use Rattle.tp_script.specs.Kinds.{IsActorIn, IsSaid, Kind, Said, actor, bytes_at, dotted_at, id, is_from, is_site, is_there, key, kinds, literal, most, number, numbers_at, read_actor, read_id, read_session, read_site, read_word, site, value, value_at, value_word, word_of}
+use Rattle.tp_script.specs.Kinds.{IsActorIn, IsSaid, Kind, Said, actor, bytes_at, dotted_at, id, is_site, is_there, key, kinds, literal, most, number, numbers_at, read_actor, read_id, read_session, read_site, read_word, site, value, value_at, value_word, word_of}
 use Rattle.tp_script.specs.declared.fault.ScriptCause.{ScriptCause}
 use Rattle.tp_script.specs.declared.fault.ScriptCause.TheVariants.{Word, Number, Shape, Key, Value, Session}
 use Rattle.tp_text.specs.Hexadecimal.{hex_of}
@@ -43,14 +44,6 @@ IsKind value = Unit {0}
 IsKind (site shape) = IsShape shape
 IsKind (id commands) = Each (λ c. IsId c.id) commands
 IsKind (actor shape sessions) = IsShape shape × (sessions ≤ 16)
-
-pub in_range : (low high n : ℕ) → is_from low high n ≡ true → IsFrom low high n
-in_range low high n e =
-    let parts = and_parts (leb low n) (leb n high) e in
-    (leb-true _ _ parts.0, leb-true _ _ parts.1)
-
-pub range_in : (low high n : ℕ) → IsFrom low high n → is_from low high n ≡ true
-range_in low high n range = rw (le-leb low n range.0, le-leb n high range.1) refl
 
 cases : (b : Bool) → (b ≡ true) ⊎ (b ≡ false)
 cases true = inl refl

@@ -7,18 +7,19 @@ use Rattle.std.specs.Str.{bytes_eq}
 use Rattle.std.proofs.lemmas.Bool.{cases_lt, le-leb, lt-ltb}
 use Rattle.std.proofs.lemmas.List.Elements.{filter-append}
 use Rattle.std.proofs.lemmas.List.Folds.{list_any-append}
-use Rattle.tp_base.specs.Limits.{IsFrom}
+use Rattle.tp_base.proofs.Ends.{slice_get_left, slice_get_push}
+use Rattle.tp_base.proofs.Ranges.{range_in}
+use Rattle.tp_base.specs.Limits.{IsFrom, is_from}
 use Rattle.tp_base.specs.Lists.{Each}
 use Rattle.tp_base.specs.declared.names.ActorName.{ActorName}
 use Rattle.tp_base.specs.declared.names.ActorName.TheVariants.{Process, Executor, Session as SessionOf}
 use Rattle.tp_base.specs.declared.names.CommandId.{CommandId}
 use Rattle.tp_base.specs.declared.names.Rank.{Rank}
 use Rattle.tp_base.specs.declared.names.Site.{Site}
-use Rattle.tp_base.proofs.Ends.{slice_get_left, slice_get_push}
 use Rattle.tp_ops.specs.declared.command.Command.{Command}
 use Rattle.tp_script.specs.Accepted.{AreNumbered, HasNoDoubles, IsCommandOf, IsCount, IsHome, IsPlanLineOf, is_double}
 use Rattle.tp_script.specs.Grammar.{command_line, crash_line, drop_line, has_double, home_of, is_shape, next_command, next_number, ops_and_count, pick_line, recover_line, repeat_all, repeat_line, repeat_one, room, session_line, shape_line, with_plan}
-use Rattle.tp_script.specs.Kinds.{AllSaid, IsSaid, Kind, Said, count, is_from, kinds, row, take_word, times}
+use Rattle.tp_script.specs.Kinds.{AllSaid, IsSaid, Kind, Said, count, kinds, row, take_word, times}
 use Rattle.tp_script.specs.Meaning.{begun, in_group, into_plan, line_of}
 use Rattle.tp_script.specs.Print.{command_words, ops_words, pick_words, plan_words, session_words}
 use Rattle.tp_script.specs.declared.draft.Draft.{Draft}
@@ -28,7 +29,7 @@ use Rattle.tp_script.specs.declared.script.PlanLine.{PlanLine}
 use Rattle.tp_script.specs.declared.script.PlanLine.TheVariants.{Crash, Recover, Lose, Repeat, RepeatAll}
 use Rattle.tp_script.specs.declared.script.Script.{Script}
 use Rattle.tp_script.proofs.Grown.{is_by, two_counts, with_home}
-use Rattle.tp_script.proofs.Kinded.{IsKind, laws, range_in}
+use Rattle.tp_script.proofs.Kinded.{IsKind, laws}
 use Rattle.tp_script.proofs.OpsWritten.{counted_again}
 use Rattle.tp_script.proofs.PlanGrown.{IsBase, actor_in, crash_fit, crash_kinds, drop_fit, drop_kinds, or_both, recover_fit, recover_kinds, repeat_fit, repeat_kinds, three_counts, with_line, with_pick}
 use Rattle.tp_text.specs.Names.{actor_word, id_word, site_word}

@@ -6,7 +6,8 @@ use Rattle.std.specs.Str.{bytes_eq}
 use Rattle.std.proofs.lemmas.Bool.{and_parts, ltb-true}
 use Rattle.std.proofs.lemmas.List.{append-nil, map_push}
 use Rattle.std.proofs.lemmas.List.Folds.{list_any-append}
-use Rattle.tp_base.specs.Limits.{IsId}
+use Rattle.tp_base.proofs.Ranges.{in_range}
+use Rattle.tp_base.specs.Limits.{IsId, is_from}
 use Rattle.tp_base.specs.Lists.{Each}
 use Rattle.tp_base.specs.declared.names.ActorName.{ActorName}
 use Rattle.tp_base.specs.declared.names.ActorName.TheVariants.{Process, Executor, Session as SessionOf}
@@ -15,7 +16,7 @@ use Rattle.tp_base.proofs.Each.{each_push, each_weaker}
 use Rattle.tp_ops.specs.declared.command.Command.{Command}
 use Rattle.tp_script.specs.Accepted.{HasNoDoubles, IsAccepted, IsActorOf, IsCommandOf, IsCount, IsPlanLineOf, is_double}
 use Rattle.tp_script.specs.Grammar.{crash_line, drop_line, has_double, is_shape, pick_line, recover_line, repeat_all, repeat_line, repeat_one, room, shape_line, with_plan}
-use Rattle.tp_script.specs.Kinds.{IsActorIn, Kind, actor, count, id, is_from, literal, ordinal, row, site, times}
+use Rattle.tp_script.specs.Kinds.{IsActorIn, Kind, actor, count, id, literal, ordinal, row, site, times}
 use Rattle.tp_script.specs.Print.{body, command_words, pick_words, plan_words, session_lines, shape_words}
 use Rattle.tp_script.specs.declared.fault.ScriptCause.{ScriptCause}
 use Rattle.tp_script.specs.declared.fault.ScriptCause.TheVariants.{Duplicate, Limit, Shape}
@@ -23,7 +24,7 @@ use Rattle.tp_script.specs.declared.script.PlanLine.{PlanLine}
 use Rattle.tp_script.specs.declared.script.PlanLine.TheVariants.{Crash, Recover, Lose, Repeat, RepeatAll}
 use Rattle.tp_script.specs.declared.script.Script.{Script}
 use Rattle.tp_script.proofs.Grown.{Grows, Words, one_longer, row_is}
-use Rattle.tp_script.proofs.Kinded.{IsKind, in_range}
+use Rattle.tp_script.proofs.Kinded.{IsKind}
 use Rattle.tp_text.specs.Steps.{◌>>=◌, need}
 use Rattle.tp_text.proofs.Plain.{plain_by, same_bytes}
 use Rattle.tp_text.proofs.Stepped.{bind_ok, chosen, need_ok, ok_is}

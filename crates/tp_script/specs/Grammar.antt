@@ -3,12 +3,13 @@ use Rattle.std.specs.List.{list_any}
 use Rattle.std.specs.Prelude.{ℕ, zero, suc, ◌-◌, ◌/◌, ◌==◌, ◌&&◌, nat_le, nat_lt, not, Bool, if◌then◌else◌, List, [], ◌∷◌, ◌++◌, codes, length, Option, Some, None, Result, Ok, Err, slice_get, take}
 use Rattle.std.specs.Option.{option_map}
 use Rattle.std.specs.Str.{bytes_eq}
+use Rattle.tp_base.specs.Limits.{is_from}
 use Rattle.tp_base.specs.declared.names.Rank.{Rank}
 use Rattle.tp_ops.specs.declared.command.Command.{Command}
 use Rattle.tp_ops.specs.declared.operation.Op.{Op}
 use Rattle.tp_ops.specs.declared.operation.Op.TheVariants.{Get, Put, Del, Cas}
 use Rattle.tp_script.specs.Accepted.{commands_by, is_double}
-use Rattle.tp_script.specs.Kinds.{actor, count, id, is_from, key, literal, ordinal, row, site, take_word, times, value}
+use Rattle.tp_script.specs.Kinds.{actor, count, id, key, literal, ordinal, row, site, take_word, times, value}
 use Rattle.tp_script.specs.declared.fault.ScriptCause.{ScriptCause}
 use Rattle.tp_script.specs.declared.fault.ScriptCause.TheVariants.{Word, Shape, Session, Duplicate, Limit}
 use Rattle.tp_script.specs.declared.script.PlanLine.{PlanLine}

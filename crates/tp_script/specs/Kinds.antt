@@ -3,9 +3,9 @@
 use Rattle.hex.specs.Hex.{encode_lower}
 use Rattle.std.specs.Fmt.{decimal}
 use Rattle.std.specs.List.{list_any}
-use Rattle.std.specs.Prelude.{ℕ, ◌≡◌, ◌==◌, ◌&&◌, nat_le, Bool, true, if◌then◌else◌, List, [], ◌∷◌, ◌++◌, codes, length, Option, Some, None, Result, Ok, Err}
+use Rattle.std.specs.Prelude.{ℕ, ◌≡◌, ◌==◌, ◌&&◌, Bool, true, if◌then◌else◌, List, [], ◌∷◌, ◌++◌, codes, length, Option, Some, None, Result, Ok, Err}
 use Rattle.std.specs.Str.{bytes_eq}
-use Rattle.tp_base.specs.Limits.{IsFrom}
+use Rattle.tp_base.specs.Limits.{IsFrom, is_from}
 use Rattle.tp_base.specs.Names.{same_id}
 use Rattle.tp_base.specs.declared.names.ActorName.{ActorName}
 use Rattle.tp_base.specs.declared.names.ActorName.TheVariants.{Process, Executor, Session as SessionOf}
@@ -89,9 +89,6 @@ word_of (id commands) i = id_word i
 word_of (actor shape sessions) a = actor_word a
 
 -- ---- what a word says, or its fault
-
-abbrev pub is_from : ℕ → ℕ → ℕ → Bool
-is_from low high n = nat_le low n && nat_le n high
 
 unfoldable pub bytes_at : ScriptCause → ℕ → List ℕ → Result (List ℕ) ScriptCause
 bytes_at cause longest word = do

@@ -3,15 +3,16 @@ use Rattle.std.proofs.Common.{◌≡◌, ℕ, zero, suc, ◌^◌, ◌<◌, ◌�
 use Rattle.std.specs.Prelude.{nat_le}
 use Rattle.std.proofs.lemmas.Bool.{le-leb, leb-true}
 use Rattle.std.proofs.lemmas.List.{length-append, length-take, take-append-drop}
+use Rattle.tp_base.proofs.Ranges.{in_range, range_in}
 use Rattle.tp_base.specs.Fields.{At, IsBytes, big_endian, big_endian_value, left, past}
-use Rattle.tp_base.specs.Limits.{IsFrom}
+use Rattle.tp_base.specs.Limits.{IsFrom, is_from}
 use Rattle.tp_base.specs.Lists.{Each}
 use Rattle.tp_base.proofs.BigEndian.{big_endian-big_endian_value, big_endian_value-big_endian, big_endian_value-lt, length-big_endian}
 use Rattle.tp_base.proofs.Reading.{IsBytes-drop, IsBytes-take, left_past, left_text, take_text}
 use Rattle.tp_ops.specs.Limits.{IsText}
 use Rattle.tp_text.specs.Steps.{◌>>=◌, need}
 use Rattle.tp_text.proofs.Stepped.{bind_ok, need_ok, ok_is}
-use Rattle.tp_wire.specs.Meaning.{bytes_at, fault_at, is_from, number_at, text_at, value_at}
+use Rattle.tp_wire.specs.Meaning.{bytes_at, fault_at, number_at, text_at, value_at}
 use Rattle.tp_wire.specs.Spelling.{byte, eight, four, text}
 use Rattle.tp_wire.specs.declared.fault.WireCause.TheVariants.{Range, Short}
 use Rattle.tp_wire.specs.declared.fault.WireFault.{WireFault}
@@ -76,12 +77,6 @@ value_field width = record {
       let is = bytes_again width at (big_endian width n) rest (length-big_endian width n) e in
       record { after = is.after; read = rw (is.read, big_endian_value-big_endian width n fits) refl; rest_is = is.rest_is };
 }
-
-in_range : (low high n : ℕ) → is_from low high n ≡ true → IsFrom low high n
-in_range low high n test = (grind arith, grind arith)
-
-range_in : (low high n : ℕ) → IsFrom low high n → is_from low high n ≡ true
-range_in low high n fits = rw (le-leb low n fits.0, le-leb n high fits.1) refl
 
 pub number_field : (width low high : ℕ) → high < 256 ^ width → IsField (number_at width low high) (big_endian width) (IsFrom low high)
 unfolding number_at

@@ -1,7 +1,8 @@
 -- What bytes say: a message, or the first fault from the left with its place. Each field names where it begins, so no
 -- place is reckoned.
-use Rattle.std.specs.Prelude.{ℕ, zero, suc, ◌+◌, ◌-◌, ◌^◌, ◌==◌, ◌&&◌, nat_le, Bool, if◌then◌else◌, List, [], ◌∷◌, length, take, min, Option, Some, None, Result, Ok, Err}
+use Rattle.std.specs.Prelude.{ℕ, zero, suc, ◌+◌, ◌-◌, ◌==◌, nat_le, if◌then◌else◌, List, [], ◌∷◌, length, take, min, Option, Some, None, Result, Ok, Err}
 use Rattle.tp_base.specs.Fields.{At, big_endian_value, left, past}
+use Rattle.tp_base.specs.Limits.{STAMP_LIMIT, is_from}
 use Rattle.tp_base.specs.Tables.{nth}
 use Rattle.tp_base.specs.declared.names.ActorName.{ActorName}
 use Rattle.tp_base.specs.declared.names.ActorName.TheVariants.{Process, Executor, Session}
@@ -46,9 +47,6 @@ value_at width at = do
   bytes ← bytes_at width at
   Ok (big_endian_value bytes.0, bytes.1)
 
-abbrev pub is_from : ℕ → ℕ → ℕ → Bool
-is_from low high n = nat_le low n && nat_le n high
-
 -- a number of so many bytes, from low to high
 unfoldable pub number_at : ℕ → ℕ → ℕ → Reader ℕ
 number_at width low high at = do
@@ -83,8 +81,9 @@ times_at reader (suc n) at = do
 
 -- ---- names and numbers
 
+-- the greatest stamp, and the greatest ballot
 abbrev pub most : ℕ
-most = 2 ^ 48 - 1
+most = STAMP_LIMIT - 1
 
 unfoldable pub site_at : Reader Site
 site_at at = do
