@@ -33,7 +33,7 @@ use Rattle.tp_agreement.proofs.LaterMoments.{decided_later}
 use Rattle.tp_agreement.proofs.Moment.{IsRank, Moment, SentBy, acts_of, command, facts_of, id_of_command, is_true, moment_at, named, process, put, received_from, sent_of, quorum_rule, shape, sheet}
 
 -- what a process sent by its acts was sent
-acts_are_sent : (script : Script) (older : List Entry) → IsFreeHistory script older → (k : Site) (n : Message)
+pub acts_are_sent : (script : Script) (older : List Entry) → IsFreeHistory script older → (k : Site) (n : Message)
     → IsIn n (sent_by (ring_rule script.topology) k (acts older (Process k))) → IsSent older n
 acts_are_sent script [] history k n there = absurd there
 acts_are_sent script (e ∷ older) history k n there =

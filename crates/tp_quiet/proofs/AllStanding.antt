@@ -23,7 +23,7 @@ use Rattle.tp_quiet.proofs.Onward.{act_onward, step_onward}
 use Rattle.tp_quiet.proofs.Proposals.{IsReasoned, reasoned_kept, reasoned_more}
 use Rattle.tp_quiet.proofs.Served.{Onward}
 use Rattle.tp_quiet.proofs.Serving.{IsHeeded}
-use Rattle.tp_quiet.proofs.Standing.{IsJoinedFor, IsSpread, IsProposedKept, IsTryAsked, asked_kept, asked_more, heeded_kept, joined_kept, joined_more, proposed_kept, spread_kept, spread_more}
+use Rattle.tp_quiet.proofs.Standing.{IsJoinedFor, IsSpread, IsProposedKept, IsPutKept, IsTryAsked, asked_kept, asked_more, heeded_kept, joined_kept, joined_more, proposed_kept, put_kept, spread_kept, spread_more}
 
 module _ (s : QuorumRule) (me : Site) (of : CommandId → Command) where
   -- what stands of a command
@@ -34,6 +34,8 @@ module _ (s : QuorumRule) (me : Site) (of : CommandId → Command) where
     pub asked : IsTryAsked s me of sent id sheet.tried sheet.command
     -- a command that it proposed is kept
     pub kept : IsProposedKept s me of sheet
+    -- and so is the command of what it puts
+    pub put_kept : IsPutKept s me of sheet
     -- a full fast quorum was heeded
     pub heeded : IsHeeded s me.partition.0 sheet
     -- the ballot that it joined was put or asked for
@@ -49,6 +51,7 @@ module _ (s : QuorumRule) (me : Site) (of : CommandId → Command) where
     spread : IfAny (IsSpread s me of sent id) sheet.put
     asked : IsTryAsked s me of sent id sheet.tried sheet.command
     kept : IsProposedKept s me of sheet
+    put_kept : IsPutKept s me of sheet
     heeded : IsHeeded s me.partition.0 sheet
     joined : 0 < sheet.ballot → IsJoinedFor s me of acts sent id sheet.ballot
     reasoned : IsReasoned s me of acts sent id sheet.ballot sheet.proposal
@@ -59,6 +62,7 @@ module _ (s : QuorumRule) (me : Site) (of : CommandId → Command) where
     spread = spread_more s me of sent out id sheet.put h.spread;
     asked = asked_more s me of sent out id sheet.tried sheet.command sheet.command (λ some. some) h.asked;
     kept = h.kept;
+    put_kept = h.put_kept;
     heeded = h.heeded;
     joined = λ some. joined_more s me of act acts sent out id sheet.ballot (h.joined some);
     reasoned = reasoned_more s me of act acts sent out id sheet.ballot sheet.ballot sheet.proposal (omega arith) h.reasoned;
@@ -82,6 +86,7 @@ module _ (s : QuorumRule) (me : Site) (of : CommandId → Command) where
           spread = spread_kept s me of sent change f.command (h i).spread;
           asked = asked_kept s me of sent change f.command (h i).asked;
           kept = proposed_kept s me of change (h i).kept;
+          put_kept = put_kept s me of change (h i).put_kept;
           heeded = heeded_kept s me of change goes here (omega (arith, here.partition.1, f.places.stamps)) f.gathered.none (h i).heeded;
           joined = joined_kept s me of before sent change genuine (h i).joined;
           reasoned = reasoned_kept s me of before sent change genuine goes (h i).reasoned;
@@ -97,6 +102,7 @@ module _ (s : QuorumRule) (me : Site) (of : CommandId → Command) where
           spread = tt;
           asked = λ some. absurd (omega (arith, some));
           kept = λ some. absurd cc;
+          put_kept = λ some. absurd cc;
           heeded = inr (inr (omega (arith, acknowledgements, here.two)));
           joined = λ some. absurd (omega (arith, some));
           reasoned = tt;
@@ -118,6 +124,7 @@ module _ (s : QuorumRule) (me : Site) (of : CommandId → Command) where
           spread = told.spread;
           asked = told.asked;
           kept = told.kept;
+          put_kept = told.put_kept;
           heeded = told.heeded;
           joined = told.joined;
           reasoned = told.reasoned;

@@ -1,11 +1,16 @@
+pub mod Admitted
 pub mod AllExecuted
+pub mod AllKnown
 pub mod AllServed
 pub mod AllStable
 pub mod AllStanding
 pub mod AtRest
+pub mod ClockRises
 pub mod Counts
+pub mod Destinations
 pub mod EachSheet
 pub mod Gains
+pub mod LowProcesses
 pub mod LowSaid
 pub mod LowStamps
 pub mod NotStuck
@@ -15,8 +20,10 @@ pub mod Proposals
 pub mod Questions
 pub mod QuietRun
 pub mod Replies
+pub mod Room
 pub mod Served
 pub mod Serving
 pub mod Standing
 pub mod Stuck
 pub mod TakenWell
+pub mod TellsAll

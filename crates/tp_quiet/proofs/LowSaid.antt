@@ -30,7 +30,7 @@ module _ (n : ℕ) (s : QuorumRule) (me : Site) where
   abbrev Low : Message → Type 0
   Low m = IsLowBody n m.body
 
-  final_stamp_low : (shape : Shape) (sheet : Sheet) (c : Command) (t : ℕ) → Each (IfAny IsLow) sheet.known
+  pub final_stamp_low : (shape : Shape) (sheet : Sheet) (c : Command) (t : ℕ) → Each (IfAny IsLow) sheet.known
       → final_stamp shape sheet (Some c) ≡ Some t → t ≤ n
   final_stamp_low shape sheet c t known is =
       let stamps : List (Option ℕ) = stamps_of shape sheet c in

@@ -1,10 +1,12 @@
--- No process proposes to itself, and each question of a recovery names a ballot that its sender tried.
+-- No process proposes to itself, each question of a recovery names a ballot that its sender tried, and each commit tells of a
+-- partition whose stamp its sender knows.
 -- Used for each message of a run: when it is taken, it is to what was asked.
-use Rattle.std.proofs.Common.{◌≡◌, ℕ, ◌≤◌, Bool, inl, inr, true, cond, List, [], ◌∷◌, map, Option, Some, None, sym, ap, subst, arith}
+use Rattle.std.proofs.Common.{◌≡◌, ℕ, ◌≤◌, Bool, inl, inr, true, cond, List, [], ◌∷◌, length, map, Option, Some, None, is_some, sym, ap, subst, ◌∙◌, arith}
 use Rattle.std.specs.Prelude.{◌==◌, filter, not}
 use Rattle.std.proofs.lemmas.Bool.{both_ways, cond_both, cond-true, eq-eqb, not-true}
 use Rattle.tp_base.proofs.Each.{each_append, each_weaker}
 use Rattle.tp_base.proofs.SameNames.{same_id_refl}
+use Rattle.tp_base.specs.Limits.{IsFrom}
 use Rattle.tp_base.specs.Lists.{Each}
 use Rattle.tp_base.specs.Names.{same_id}
 use Rattle.tp_base.specs.declared.names.ActorName.{ActorName}
@@ -15,24 +17,26 @@ use Rattle.tp_facts.proofs.ActSteps.{step_of_act}
 use Rattle.tp_facts.proofs.Facts.{IsGenuine, IsHere, KeepsCommand, sent_by}
 use Rattle.tp_facts.proofs.Invariant.{facts_hold}
 use Rattle.tp_facts.proofs.StepCases.{IsFinal, untold, final, chosen_stamp, with_recovery_answer, SheetStep, submits, submits_and_acknowledges, proposes, decides_fast, puts_slow, accepts, decides_by_votes, learns, proposes_and_answers_recovery, answers_recovery, puts_recovered, starts_recovery, ProcessStep, does_nothing, bumps_clock, announces, passes_commit_on, changes_sheet, attaches_proposal}
+use Rattle.tp_facts.proofs.Tables.{kept_here}
 use Rattle.tp_ops.specs.declared.command.Command.{Command}
 use Rattle.tp_rules.proofs.SendsOfProcess.{bumps_send, commit_messages_send, each_to, put_to_vote_sends, stamp}
 use Rattle.tp_rules.specs.Acts.{Act}
 use Rattle.tp_rules.specs.Addresses.{executors_of, message, processes_of, site}
 use Rattle.tp_rules.specs.Process.{ProcessState, Step, announced, asked, bumps, commit_messages, commit_reply, proposals, react, state_after, untold as untold_pairs}
-use Rattle.tp_rules.specs.Sheet.{QuorumRule, Sheet}
+use Rattle.tp_rules.specs.Sheet.{QuorumRule, Sheet, stamp_of}
 use Rattle.tp_topology.specs.Ballots.{next_ballot}
 use Rattle.tp_topology.specs.Counting.{up_to}
 use Rattle.tp_wire.specs.declared.message.Body.{Body}
-use Rattle.tp_wire.specs.declared.message.Body.TheVariants.{MConsensus, MPayload, MPromises, MPropose, MRec}
+use Rattle.tp_wire.specs.declared.message.Body.TheVariants.{MCommit, MConsensus, MPayload, MPromises, MPropose, MRec}
 use Rattle.tp_wire.specs.declared.message.Message.{Message}
 use Rattle.tp_quiet.proofs.Onward.{act_onward}
-use Rattle.tp_quiet.proofs.Served.{Onward}
+use Rattle.tp_quiet.proofs.Served.{Knows, Onward}
 
--- what a message asks is fair: a proposal goes to another, and a recovery tries the ballot
+-- what a message says is fair: a proposal goes to another, a recovery tries the ballot, and a commit's stamp is known
 abbrev pub IsFair : Site → (CommandId → Sheet) → ActorName → Body → Type 0
 IsFair me sheets to (MPropose c t) = to ≡ Process me → ⊥
 IsFair me sheets to (MRec c b) = b ≤ (sheets c.id).tried
+IsFair me sheets to (MCommit c q t) = Knows q.0 (sheets c.id)
 IsFair me sheets to _ = Unit {0}
 
 abbrev pub AsksFairly : Site → (CommandId → Sheet) → Message → Type 0
@@ -52,6 +56,7 @@ fair_more me old new to (MRec c b) goes h = elim (goes c.id).tried [
   | inl rises ↦ omega (arith, h)
   | inr same ↦ omega (arith, h, same.0)
 ]
+fair_more me old new to (MCommit c q t) goes h = (goes c.id).knows q.0 h
 fair_more me old new to _ goes h = tt
 
 module _ (s : QuorumRule) (me : Site) (of : CommandId → Command) where
@@ -70,15 +75,19 @@ module _ (s : QuorumRule) (me : Site) (of : CommandId → Command) where
         each_to Fair (Process me) (processes_of s.shape me.partition.0) (MRec c b)
         (λ to. subst (λ (i : CommandId). b ≤ (sheets i).tried) (sym keeps.1) h)
 
-    passed_fair : (to : ActorName) (o : Option Command) (t : ℕ) → Each Fair (commit_reply me to o t)
-    passed_fair to None t = tt
-    passed_fair to (Some c) t = (tt, tt)
+    passed_fair : (to : ActorName) (id : CommandId) (o : Option Command) (t : ℕ) → KeepsCommand of id o
+        → Knows me.partition.0 (sheets id) → Each Fair (commit_reply me to o t)
+    passed_fair to id None t keeps known = tt
+    passed_fair to id (Some c) t keeps known =
+        (subst (λ (i : CommandId). Knows me.partition.0 (sheets i)) (sym keeps.1) known, tt)
 
     bumps_fair : (c : Command) (t : ℕ) → Each Fair (bumps s.shape me c t)
     bumps_fair c t = bumps_send Fair me s.shape c t (λ to. tt)
 
-    commits_fair : (o : Option Command) (t : ℕ) → Each Fair (commit_messages s.shape me o t)
-    commits_fair o t = commit_messages_send Fair me s.shape o t (λ c to e. tt)
+    commits_fair : (id : CommandId) (o : Option Command) (t : ℕ) → KeepsCommand of id o
+        → Knows me.partition.0 (sheets id) → Each Fair (commit_messages s.shape me o t)
+    commits_fair id o t keeps known = commit_messages_send Fair me s.shape o t (λ c to e.
+        subst (λ (i : CommandId). Knows me.partition.0 (sheets i)) (sym (subst (KeepsCommand of id) e keeps).1) known)
 
     announced_fair : (state : ProcessState) → Each Fair (announced s.shape me state)
     unfolding announced
@@ -102,43 +111,53 @@ module _ (s : QuorumRule) (me : Site) (of : CommandId → Command) where
         (λ rank other. cond_both (s.in_quorum c rank) (MPropose c (stamp t)) (MPayload c)
         (λ (body : Body). IsFair me sheets (Process (site me.partition.0 rank)) body) (λ y. other_rank rank other) (λ n. tt))
 
+    known_now : {id : CommandId} {new : Sheet} {t : ℕ} → sheets id ≡ new → stamp_of new me.partition.0 ≡ Some t
+        → Knows me.partition.0 (sheets id)
+    known_now at is = ap (λ (x : Sheet). is_some (stamp_of x me.partition.0)) at ∙ ap (λ (o : Option ℕ). is_some o) is
+
     sheet_step_fair : {act : Act} {id : CommandId} {old new : Sheet} {out : List Message}
-        → SheetStep s me act id old new out → KeepsCommand of id old.command → sheets id ≡ new → Each Fair out
-    sheet_step_fair (submits c t e home fresh) keeps at = each_append Fair _ _ (proposals_fair c t) (bumps_fair _ t)
-    sheet_step_fair (submits_and_acknowledges c t e home fresh can) keeps at =
+        → SheetStep s me act id old new out → KeepsCommand of id old.command → IsFrom 1 (length old.known) me.partition.0
+        → sheets id ≡ new → Each Fair out
+    sheet_step_fair (submits c t e home fresh) keeps place at = each_append Fair _ _ (proposals_fair c t) (bumps_fair _ t)
+    sheet_step_fair (submits_and_acknowledges c t e home fresh can) keeps place at =
         each_append Fair _ _ (proposals_fair c t) (bumps_fair _ t)
-    sheet_step_fair (proposes c floor t e le fresh) keeps at = (tt, bumps_fair _ t)
-    sheet_step_fair (decides_fast id t e can full fast last) keeps at =
-        each_append Fair _ _ (commits_fair _ _) (final_fair last)
-    sheet_step_fair (puts_slow id t e can full slow) keeps at =
+    sheet_step_fair (proposes c floor t e le fresh) keeps place at = (tt, bumps_fair _ t)
+    sheet_step_fair {old = old} (decides_fast id t e can full fast last) keeps place at =
+        each_append Fair _ _ (commits_fair id old.command _ keeps (known_now at (kept_here old.known me.partition.0 _ place.0 place.1)))
+        (final_fair last)
+    sheet_step_fair (puts_slow id t e can full slow) keeps place at =
         put_to_vote_sends Fair me s.shape _ _ _ (λ c to is. tt)
-    sheet_step_fair (accepts c t b e none le) keeps at = (tt, tt)
-    sheet_step_fair (decides_by_votes base id put e none enough last) keeps at =
-        each_append Fair _ _ (commits_fair _ _) (final_fair last)
-    sheet_step_fair (learns c q t e none last) keeps at = final_fair last
-    sheet_step_fair (proposes_and_answers_recovery c b t e none low nothing unjoined) keeps at = (tt, bumps_fair _ t)
-    sheet_step_fair (answers_recovery c b e none low first) keeps at = (tt, tt)
-    sheet_step_fair {old = old} (puts_recovered {m} id t made a b c e can is enough) keeps at =
+    sheet_step_fair (accepts c t b e none le) keeps place at = (tt, tt)
+    sheet_step_fair (decides_by_votes base id put e none enough last) keeps place at =
+        each_append Fair _ _ (commits_fair id base.command _ keeps (known_now at (kept_here base.known me.partition.0 _ place.0 place.1)))
+        (final_fair last)
+    sheet_step_fair (learns c q t e none last) keeps place at = final_fair last
+    sheet_step_fair (proposes_and_answers_recovery c b t e none low nothing unjoined) keeps place at = (tt, bumps_fair _ t)
+    sheet_step_fair (answers_recovery c b e none low first) keeps place at = (tt, tt)
+    sheet_step_fair {old = old} (puts_recovered {m} id t made a b c e can is enough) keeps place at =
         let chosen : ℕ = chosen_stamp s c (with_recovery_answer m t made a old) in
         each_to Fair (Process me) (processes_of s.shape me.partition.0) (MConsensus c (stamp chosen) b) (λ to. tt)
-    sheet_step_fair {old = old} (starts_recovery id is none) keeps at =
+    sheet_step_fair {old = old} (starts_recovery id is none) keeps place at =
         let b : ℕ = next_ballot s.shape me.rank.0 old.ballot old.tried in
         let tried : (sheets id).tried ≡ b = ap (λ (x : Sheet). x.tried) at in
         asked_fair id b old.command keeps (omega (arith, tried))
-    sheet_step_fair _ keeps at = tt
+    sheet_step_fair _ keeps place at = tt
 
   step_fair : {act : Act} {state : ProcessState} {moved : Step} → ProcessStep s me act state moved
-      → ((id : CommandId) → KeepsCommand of id (state.sheets id).command) → Each (AsksFairly me moved.0.sheets) moved.1
-  step_fair does_nothing keeps = tt
-  step_fair (bumps_clock clock le) keeps = tt
-  step_fair {act} {state} announces keeps = announced_fair state.sheets state
-  step_fair {act} {state} (passes_commit_on {m} c b t is e known) keeps =
-      passed_fair state.sheets m.from (state.sheets c.id).command t
-  step_fair {act} {state} (changes_sheet {id = i} {new = new} clock le step same) keeps =
-      sheet_step_fair (λ other. cond (same_id i other) new (state.sheets other)) step (keeps i)
+      → ((id : CommandId) → KeepsCommand of id (state.sheets id).command)
+      → ((id : CommandId) → IsFrom 1 (length (state.sheets id).known) me.partition.0)
+      → Each (AsksFairly me moved.0.sheets) moved.1
+  step_fair does_nothing keeps place = tt
+  step_fair (bumps_clock clock le) keeps place = tt
+  step_fair {act} {state} announces keeps place = announced_fair state.sheets state
+  step_fair {act} {state} (passes_commit_on {m} c b t is e known) keeps place =
+      passed_fair state.sheets m.from c.id (state.sheets c.id).command t (keeps c.id)
+      (ap (λ (o : Option ℕ). is_some o) known)
+  step_fair {act} {state} (changes_sheet {id = i} {new = new} clock le step same) keeps place =
+      sheet_step_fair (λ other. cond (same_id i other) new (state.sheets other)) step (keeps i) (place i)
       (cond-true (same_id i i) new (state.sheets i) (same_id_refl i))
-  step_fair {act} {state} (attaches_proposal {id = i} {new = new} t made lt step none is) keeps =
-      sheet_step_fair (λ other. cond (same_id i other) new (state.sheets other)) step (keeps i)
+  step_fair {act} {state} (attaches_proposal {id = i} {new = new} t made lt step none is) keeps place =
+      sheet_step_fair (λ other. cond (same_id i other) new (state.sheets other)) step (keeps i) (place i)
       (cond-true (same_id i i) new (state.sheets i) (same_id_refl i))
 
   pub all_fair : IsHere s me → (acts : List Act) → Each (IsGenuine of) acts
@@ -149,7 +168,8 @@ module _ (s : QuorumRule) (me : Site) (of : CommandId → Command) where
       let facts = facts_hold s me of here before genuine.1 in
       let goes = act_onward s me of here before (sent_by s me before) (step_of_act s me act state) genuine.0 facts.sheets in
       each_append (AsksFairly me (react s me act state).0.sheets) (react s me act state).1 (sent_by s me before)
-      (step_fair (step_of_act s me act state) (λ id. (facts.sheets id).command))
+      (step_fair (step_of_act s me act state) (λ id. (facts.sheets id).command)
+      (λ id. (here.partition.0, omega (arith, here.partition.1, (facts.sheets id).places.stamps))))
       (each_weaker (AsksFairly me state.sheets) (AsksFairly me (react s me act state).0.sheets)
       (λ m h. fair_more me state.sheets (react s me act state).0.sheets m.to m.body goes h) (sent_by s me before)
       (all_fair here before genuine.1))

@@ -1,32 +1,26 @@
--- In a quiet run without losses and crashes, where each message that a process took was admitted, some process of each
--- partition knows the stamp of a command that was submitted there.
-use Rattle.std.proofs.Common.{◌≡◌, ℕ, true, List, []}
+-- In a quiet run without losses and crashes some process of each partition knows the stamp of a command that was submitted
+-- there.
+use Rattle.std.proofs.Common.{◌≡◌, ℕ, List, []}
 use Rattle.tp_base.specs.Limits.{IsFrom}
 use Rattle.tp_base.specs.Lists.{IsIn}
-use Rattle.tp_base.specs.declared.names.ActorName.TheVariants.{Process}
-use Rattle.tp_base.specs.declared.names.Site.{Site}
 use Rattle.tp_facts.proofs.Commands.{command_in_names}
 use Rattle.tp_facts.specs.Settled.{sheet_at}
 use Rattle.tp_ops.specs.declared.command.Command.{Command}
 use Rattle.tp_rules.proofs.Histories.{free_history}
-use Rattle.tp_rules.specs.Addresses.{is_site_of}
-use Rattle.tp_rules.specs.Journal.{acts}
 use Rattle.tp_rules.specs.Pending.{pending}
 use Rattle.tp_rules.specs.Runs.{IsHistory}
-use Rattle.tp_rules.specs.Sheet.{ring_rule}
 use Rattle.tp_rules.specs.declared.event.Entry.{Entry}
 use Rattle.tp_script.specs.Accepted.{IsAccepted}
 use Rattle.tp_script.specs.declared.script.Script.{Script}
+use Rattle.tp_quiet.proofs.Admitted.{all_admitted}
 use Rattle.tp_quiet.proofs.AtRest.{at_rest}
 use Rattle.tp_quiet.proofs.Served.{Knows}
 use Rattle.tp_quiet.proofs.Stuck.{IsSubmitted, IsTakenIn, someone_knows}
-use Rattle.tp_quiet.proofs.TakenWell.{AreAdmitted, all_taken_well, all_to_others, are_genuine, is_here}
+use Rattle.tp_quiet.proofs.TakenWell.{all_taken_well, all_to_others, are_genuine, is_here}
 use Rattle.tp_quiet.specs.Finished.{IsHarmless}
 
 module _ (script : Script) (accepted : IsAccepted script) (harmless : IsHarmless script) (older : List Entry)
-    (history : IsHistory script older) (quiet : pending script older ≡ [])
-    (admitted : (k : Site) → is_site_of script.topology k ≡ true
-    → AreAdmitted (ring_rule script.topology) k (acts older (Process k))) where
+    (history : IsHistory script older) (quiet : pending script older ≡ []) where
   pub taken_in : IsTakenIn script older
   taken_in =
       let free = free_history script older history in
@@ -36,7 +30,7 @@ module _ (script : Script) (accepted : IsAccepted script) (harmless : IsHarmless
         took = (at_rest script accepted harmless older history quiet).took;
         here = is_here script accepted;
         genuine = λ k at. are_genuine script accepted older free k;
-        well = λ k at. all_taken_well script accepted older free k at (admitted k at);
+        well = λ k at. all_taken_well script accepted older free k at (all_admitted script accepted older free k at);
         to_others = all_to_others script accepted older free;
       }
 

@@ -47,7 +47,7 @@ pub record HasAnswered (me : Site) (acts : List Act) (sent : List Message) (c : 
   pub accepted : ℕ
   pub answered : IsIn (message (Process me) question.from (MRecAck c.id stamp made accepted b)) sent
 
-has_command_of_member : (s : QuorumRule) (own rank : ℕ) (o : Option Command) → is_member s own rank o ≡ true
+pub has_command_of_member : (s : QuorumRule) (own rank : ℕ) (o : Option Command) → is_member s own rank o ≡ true
     → is_some o ≡ true
 has_command_of_member s own rank None e = absurd cc
 has_command_of_member s own rank (Some c) e = refl
@@ -151,6 +151,19 @@ module _ (s : QuorumRule) (me : Site) (of : CommandId → Command) where
   proposed_kept {old = old} {new = new} (learns c q t e none last) h = λ some. refl
   proposed_kept {old = old} {new = new} (answers_recovery c b e none low first) h = λ some. refl
   proposed_kept _ h = h
+
+  -- the command of what is put is kept
+  abbrev pub IsPutKept : Sheet → Type 0
+  IsPutKept sheet = is_none sheet.put ≡ false → is_some sheet.command ≡ true
+
+  pub put_kept : {act : Act} {id : CommandId} {old new : Sheet} {out : List Message} → SheetStep s me act id old new out
+      → IsPutKept old → IsPutKept new
+  put_kept {old = old} (puts_slow {m} id t e can full slow) h =
+      λ some. has_command_of_member s me.rank.0 (rank_of m.from) old.command can.member
+  put_kept (puts_recovered id t made a b c e can is enough) h = λ some. ap (λ (o : Option Command). is_some o) is
+  put_kept (counts_vote old id put e none) h = λ some. h refl
+  put_kept (decides_by_votes old id put e none enough last) h = λ some. h refl
+  put_kept step h = λ some. command_stays step (h some)
 
   pub asked_kept : {act : Act} {id : CommandId} {old new : Sheet} {out : List Message} (sent : List Message)
       → SheetStep s me act id old new out → KeepsCommand of id old.command → IsTryAsked sent id old.tried old.command

@@ -5,7 +5,6 @@ use Rattle.std.proofs.Common.{◌≡◌, ◌≢◌, ◌⊎◌, ℕ, ◌<◌, ◌
 use Rattle.std.specs.Prelude.{is_none}
 use Rattle.std.proofs.lemmas.Bool.{and_from, both_ways, cases_eq, cases_lt}
 use Rattle.tp_base.proofs.Each.{each_in}
-use Rattle.tp_base.proofs.Members.{in_either}
 use Rattle.tp_base.specs.Limits.{IsFrom}
 use Rattle.tp_base.specs.Lists.{Each, IsIn}
 use Rattle.tp_base.specs.Tables.{kept_at, nth}
@@ -15,6 +14,7 @@ use Rattle.tp_base.specs.declared.names.CommandId.{CommandId}
 use Rattle.tp_base.specs.declared.names.Made.{Made}
 use Rattle.tp_base.specs.declared.names.Made.TheVariants.{Proposal, Recovery}
 use Rattle.tp_base.specs.declared.names.Site.{Site}
+use Rattle.tp_agreement.proofs.KnownStamps.{acts_are_sent}
 use Rattle.tp_facts.proofs.Commands.{command_in, command_in_names}
 use Rattle.tp_facts.proofs.Consequences.{put_of, said_of}
 use Rattle.tp_facts.proofs.Deliveries.{took_sent}
@@ -26,16 +26,15 @@ use Rattle.tp_facts.proofs.Senders.{sent_by_process}
 use Rattle.tp_facts.specs.Settled.{sheet_at}
 use Rattle.tp_ops.specs.declared.command.Command.{Command}
 use Rattle.tp_paxos.specs.Votes.{PutStamp}
-use Rattle.tp_rules.proofs.ActsMore.{acts_step}
 use Rattle.tp_rules.proofs.Fit.{is_between-from, site_is}
 use Rattle.tp_rules.proofs.FitChoices.{ring_has_fast_size}
 use Rattle.tp_rules.proofs.Selections.{IfAny}
 use Rattle.tp_rules.proofs.SendsOfProcess.{stamp}
 use Rattle.tp_rules.specs.Acts.{Act, Took}
 use Rattle.tp_rules.specs.Addresses.{is_between, is_site_of, message, rank_of, site}
-use Rattle.tp_rules.specs.Journal.{IsSent, act_of, acts}
+use Rattle.tp_rules.specs.Journal.{IsSent, acts}
 use Rattle.tp_rules.specs.Process.{state_after}
-use Rattle.tp_rules.specs.Runs.{IsFreeHistory, outputs_by}
+use Rattle.tp_rules.specs.Runs.{IsFreeHistory}
 use Rattle.tp_rules.specs.Sheet.{Proposed, QuorumRule, Sheet, is_made_by_proposal, is_proposal, ring_rule, stamp_of}
 use Rattle.tp_rules.specs.declared.event.Entry.{Entry}
 use Rattle.tp_script.specs.Accepted.{IsAccepted}
@@ -53,25 +52,6 @@ use Rattle.tp_quiet.proofs.OwnCounted.{IsToAnother, all_own}
 use Rattle.tp_quiet.proofs.Proposals.{HasAcknowledged, HasReason, IsReasoned}
 use Rattle.tp_quiet.proofs.Served.{IsAcknowledged, IsServed, Knows}
 use Rattle.tp_quiet.proofs.Standing.{HasAnswered, IsSpread}
-
--- what a process sent by its acts was sent
-are_sent : (script : Script) (older : List Entry) → IsFreeHistory script older → (k : Site) (n : Message)
-    → IsIn n (sent_by (ring_rule script.topology) k (acts older (Process k))) → IsSent older n
-are_sent script [] history k n there = absurd there
-are_sent script (e ∷ older) history k n there =
-    let earlier : List Message = sent_by (ring_rule script.topology) k (acts older (Process k)) in
-    let rest : IsIn n earlier → IsSent older n = are_sent script older history.0 k n in
-    acts_step (λ (list : List Act). IsIn n (sent_by (ring_rule script.topology) k list) → IsSent (e ∷ older) n)
-    older e (Process k) (λ h. inr (rest h))
-    (λ act same is h. elim (in_either (outputs_by script older (Process k) (Some act)) earlier n h) [
-      | inl new ↦
-          let outputs : e.outputs ≡ outputs_by script older (Process k) (Some act) =
-          history.1.outputs
-          ∙ ap (λ (a : ActorName). outputs_by script older a (act_of older e.event)) same
-          ∙ ap (λ (o : Option Act). outputs_by script older (Process k) o) is in
-          inl (subst (IsIn n) (sym outputs) new)
-      | inr old ↦ inr (rest old)
-    ]) there
 
 -- a journal in which each process took well all that was sent to it
 pub record IsTakenIn (script : Script) (older : List Entry) : Type 0 where
@@ -127,7 +107,7 @@ module _ (script : Script) (older : List Entry) (run : IsTakenIn script older) (
       let m : Message = message (Process (site p j)) (Process (site p k)) body in
       all_served rule (site p k) of (run.here (site p k) (is_here k range)) (acts_of k)
       (run.genuine (site p k) (is_here k range)) (run.well (site p k) (is_here k range)) m
-      (run.took m (are_sent script older run.history (site p j) m there))
+      (run.took m (acts_are_sent script older run.history (site p j) m there))
 
   -- who sent what was taken of these kinds
   record From (k : ℕ) (m : Message) : Type 0 where

@@ -80,7 +80,7 @@ module _ (script : Script) (accepted : IsAccepted script) where
         two = omega (arith, shape.some_replicas, shape.some_failure);
       }
 
-  fits : (older : List Entry) → IsFreeHistory script older → (a : ActorName)
+  pub fits : (older : List Entry) → IsFreeHistory script older → (a : ActorName)
       → Each (IsFitAct script) (acts older a)
   fits older history a =
       acts_pass script (IsFit script) older a (history_passes script (IsFit script) (fit_handed_on script accepted) older history)
