@@ -40,7 +40,7 @@ use Rattle.tp_rules.specs.Process.{ProcessState, Step, on_body, react, state_aft
 use Rattle.tp_rules.specs.Runs.{IsFreeHistory, outputs_by}
 use Rattle.tp_rules.specs.Session as session
 use Rattle.tp_rules.specs.Sheet.{QuorumRule, ring_rule}
-use Rattle.tp_rules.specs.Tables.{nth}
+use Rattle.tp_base.specs.Tables.{nth}
 use Rattle.tp_rules.specs.declared.event.Entry.{Entry}
 use Rattle.tp_rules.specs.declared.event.Inner.TheVariants.{Submit}
 use Rattle.tp_script.specs.Accepted.{IsAccepted}

@@ -20,7 +20,7 @@ use Rattle.tp_facts.proofs.Deliveries.{sent_before}
 use Rattle.tp_facts.proofs.Facts.{IsGenuine, sent_by}
 use Rattle.tp_facts.proofs.RunFacts.{FactsAt, run_holds}
 use Rattle.tp_facts.proofs.Senders.{IsOfProcess, sender_of, sent_by_process}
-use Rattle.tp_facts.proofs.Tables.{kept_replicate}
+use Rattle.tp_base.proofs.Tables.{kept_replicate}
 use Rattle.tp_ops.specs.Parts.{is_accessed}
 use Rattle.tp_ops.specs.declared.command.Command.{Command}
 use Rattle.tp_rules.proofs.ActsMore.{acts_step, acts_then}
@@ -34,7 +34,7 @@ use Rattle.tp_rules.specs.Journal.{IsSent, act_of, acts}
 use Rattle.tp_rules.specs.Process.{ProcessState, react, state_after}
 use Rattle.tp_rules.specs.Runs.{IsFreeHistory}
 use Rattle.tp_rules.specs.Sheet.{QuorumRule, Sheet, blank, ring_rule}
-use Rattle.tp_rules.specs.Tables.{kept_at}
+use Rattle.tp_base.specs.Tables.{kept_at}
 use Rattle.tp_rules.specs.declared.event.Entry.{Entry}
 use Rattle.tp_script.specs.Accepted.{IsAccepted}
 use Rattle.tp_script.specs.declared.script.Script.{Script}

@@ -4,6 +4,7 @@ pub mod AllKnown
 pub mod AllServed
 pub mod AllStable
 pub mod AllStanding
+pub mod Announced
 pub mod AtRest
 pub mod ClockRises
 pub mod Counts
@@ -27,3 +28,4 @@ pub mod Standing
 pub mod Stuck
 pub mod TakenWell
 pub mod TellsAll
+pub mod TellsExecutor

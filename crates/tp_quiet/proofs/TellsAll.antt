@@ -16,7 +16,7 @@ use Rattle.tp_base.specs.declared.names.Site.{Site}
 use Rattle.tp_facts.proofs.AcceptorKept.{carried}
 use Rattle.tp_facts.proofs.Facts.{IsGenuine, KeepsCommand}
 use Rattle.tp_facts.proofs.StepCases.{SheetStep, decides_fast, decides_by_votes, learns, ProcessStep}
-use Rattle.tp_facts.proofs.Tables.{kept_with}
+use Rattle.tp_base.proofs.Tables.{kept_with}
 use Rattle.tp_ops.specs.declared.command.Command.{Command}
 use Rattle.tp_rules.proofs.SendsOfProcess.{stamp}
 use Rattle.tp_rules.proofs.Tallies.{in_filter}
@@ -25,7 +25,7 @@ use Rattle.tp_rules.specs.Acts.{Act, Took}
 use Rattle.tp_rules.specs.Addresses.{accessed, message, processes_of, rank_of, site}
 use Rattle.tp_rules.specs.Process.{ProcessState, Step, commit_messages}
 use Rattle.tp_rules.specs.Sheet.{QuorumRule, Sheet, stamp_of}
-use Rattle.tp_rules.specs.Tables.{kept_at, with_nth}
+use Rattle.tp_base.specs.Tables.{kept_at, with_nth}
 use Rattle.tp_topology.specs.Counting.{up_to}
 use Rattle.tp_topology.specs.Shape.{Shape}
 use Rattle.tp_wire.specs.declared.message.Body.TheVariants.{MCommit}
