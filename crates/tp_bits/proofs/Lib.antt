@@ -1,4 +1,5 @@
 pub mod Sums
 mod Selected
+mod Firsts
 mod Tallies
 mod Searches

@@ -5,7 +5,7 @@ use Rattle.std.specs.Prelude.{min, not}
 use mathlib.Core.Bool.{beq}
 use Rattle.tp_bits.proofs.Selected.{select_none}
 use Rattle.tp_bits.proofs.Tallies.{block_first, sum_is}
-use Rattle.tp_bits.specs.Bits.{AreBits, IsBlockOf, IsSpot, itself, ones, select, sum_of}
+use Rattle.tp_bits.specs.Bits.{AreCounted, IsBlockOf, IsSpot, itself, ones, select, sum_of}
 use Rattle.tp_bits.specs.declared.bits.Bits.{Bits}
 use Rattle.tp_bits.specs.declared.tally.Spot.{Spot}
 
@@ -27,11 +27,15 @@ other_bit true false e = refl
 other_bit false true e = refl
 other_bit false false e = absurd cc
 
-module _ (bits : List Bool) (b : Bits) (are : AreBits bits b) (rank : ℕ) where
-  pub no_group : IsSpot b.groups.items 0 rank None → select bits rank ≡ None
-  no_group none = select_none bits rank (omega (arith, none, sum_is 4096 bits b.groups.items are.groups))
+module _ (bits : List Bool) (b : Bits) (are : AreCounted bits b) (from : ℕ) (none : ones (take (4096 * from) bits) ≡ 0) (rank : ℕ) where
+  -- no bit is counted before the groups that are searched
+  nothing : sum_of itself (take from b.groups.items) ≡ 0
+  nothing = are.groups.sums from ∙ none
 
-  module _ (group : Spot) (found : IsSpot b.groups.items 0 rank (Some group)) (first : ℕ) (start : first ≡ min (group.block * 64) (2 ^ 64 - 1)) where
+  pub no_group : IsSpot b.groups.items from rank None → select bits rank ≡ None
+  no_group past = select_none bits rank (omega (arith, past, nothing, sum_is 4096 bits b.groups.items are.groups))
+
+  module _ (group : Spot) (found : IsSpot b.groups.items from rank (Some group)) (first : ℕ) (start : first ≡ min (group.block * 64) (2 ^ 64 - 1)) where
     -- before the group's first block as many bits are set as before the group
     first_is : sum_of itself (take first b.blocks.items) + group.rank ≡ rank
     first_is =
@@ -39,10 +43,10 @@ module _ (bits : List Bool) (b : Bits) (are : AreBits bits b) (rank : ℕ) where
         let whole : 64 * first ≡ 4096 * group.block = omega (arith, start, inside, are.short) in
         let same : sum_of itself (take first b.blocks.items) ≡ sum_of itself (take group.block b.groups.items) =
         are.blocks.sums first ∙ ap (λ (n : ℕ). ones (take n bits)) whole ∙ sym (are.groups.sums group.block) in
-        omega (arith, same, found.0)
+        omega (arith, same, found.0, nothing)
 
     pub no_block : IsSpot b.blocks.items first group.rank None → select bits rank ≡ None
-    no_block none = select_none bits rank (omega (arith, none, first_is, sum_is 64 bits b.blocks.items are.blocks))
+    no_block past = select_none bits rank (omega (arith, past, first_is, sum_is 64 bits b.blocks.items are.blocks))
 
     pub bit_there : (block : Spot) → IsSpot b.blocks.items first group.rank (Some block) → (place : ℕ) → place ≡ min (block.block * 64) (2 ^ 64 - 1)
         → (o : Option ℕ) → o ≡ select b.bits.items (ones (take place b.bits.items) + block.rank) → o ≡ select bits rank

@@ -46,10 +46,22 @@ IsSpot counts from rank (Some spot) =
     (sum_of itself (take spot.block counts) + spot.rank ≡ sum_of itself (take from counts) + rank)
     × ((count : ℕ) × (slice_get counts spot.block ≡ Some count) × (spot.rank < count))
 
--- the bits of a list and its counts: in blocks of 64, in groups of 64 blocks, and in all
+-- the bits of a list and its counts: in blocks of 64, and in groups of 64 blocks
+pub record AreCounted (bits : List Bool) (b : Bits) : Type 0 where
+  pub items : b.bits.items ≡ bits
+  pub short : length bits < 2 ^ 63
+  pub blocks : IsTally 64 bits b.blocks.items
+  pub groups : IsTally 4096 bits b.groups.items
+
+-- the bits of a list, how many are set, and which is the first that is set
 pub record AreBits (bits : List Bool) (b : Bits) : Type 0 where
   pub items : b.bits.items ≡ bits
   pub short : length bits < 2 ^ 63
   pub blocks : IsTally 64 bits b.blocks.items
   pub groups : IsTally 4096 bits b.groups.items
   pub ones : b.ones ≡ ones bits
+  pub first : b.first ≡ select bits 0
+
+-- a set bit with none set from a place up to it
+abbrev pub IsFirstFrom : List Bool → ℕ → ℕ → Type 0
+IsFirstFrom bits from place = (slice_get bits place ≡ Some true) × (ones (take place bits) ≡ ones (take from bits))

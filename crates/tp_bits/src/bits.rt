@@ -1,5 +1,5 @@
-ghost use Rattle.std.specs.Prelude.{◌≡◌, ◌+◌, ◌<◌, ◌^◌, ◌++◌, ◌∷◌, [], Bool, List, Some, length, set, slice_get, take, OnOk};
-ghost use Rattle.tp_bits.specs.Bits.{AreBits, ones, select};
+ghost use Rattle.std.specs.Prelude.{◌≡◌, ◌+◌, ◌*◌, ◌<◌, ◌≤◌, ◌^◌, ◌++◌, ◌∷◌, [], Bool, List, Some, length, not, set, slice_get, take, IfSome, OnOk};
+ghost use Rattle.tp_bits.specs.Bits.{AreBits, AreCounted, IsFirstFrom, ones, select};
 
 use crate::tally::{count_new, count_turned, find};
 use std::alloc::Global;
@@ -10,13 +10,15 @@ const BLOCK: usize = 64;
 /// How many bits a group of blocks has.
 const GROUP: usize = 4096;
 
-/// A growable list of bits, with how many are set in each block and in each group of blocks.
+/// A growable list of bits, with how many are set in each block and in each group of blocks, and which is
+/// the first that is set.
 #[derive(Debug, Drop)]
 pub struct Bits {
     bits: Vec<bool>,
     blocks: Vec<u64>,
     groups: Vec<u64>,
     ones: u64,
+    first: Option<usize>,
 }
 
 impl Bits {
@@ -29,6 +31,7 @@ impl Bits {
             blocks: Vec::new(alloc),
             groups: Vec::new(alloc),
             ones: 0,
+            first: None,
         }
     }
 
@@ -43,11 +46,11 @@ impl Bits {
     pub fn select(&self, rank: u64) -> Option<usize>
         ensures { (bits : List Bool) → AreBits bits self.now → result ≡ select bits rank }
     {
-        let group = find(&self.groups, 0, rank)?;
-        let first = group.block.saturating_mul(GROUP / BLOCK);
-        let block = find(&self.blocks, first, group.rank)?;
-        let first = block.block.saturating_mul(BLOCK);
-        find_bit(&self.bits, first, block.rank)
+        let first = self.first?;
+        if rank == 0 {
+            return Some(first);
+        }
+        self.search(first / GROUP, rank)
     }
 
     /// One more bit at the end. After an error the bits aren't used again.
@@ -59,6 +62,7 @@ impl Bits {
         count_new(&mut self.blocks, place / BLOCK, bit)?;
         count_new(&mut self.groups, place / GROUP, bit)?;
         self.ones = self.ones.saturating_add(u64::from(bit));
+        self.first = first_pushed(self.first, place, bit);
         Ok(())
     }
 
@@ -72,12 +76,85 @@ impl Bits {
         if self.bits[place] == bit {
             return;
         }
+        self.turn(place, bit);
+        self.first = self.first_turned(place, bit);
+    }
+
+    // Turns a bit that was the other way, and counts it.
+    fn turn(&mut self, place: usize, bit: bool)
+        requires { place < length self.old.bits.items }
+        ensures counted { (bits : List Bool) → AreCounted bits self.old → slice_get bits place ≡ Some (not bit) → AreCounted (set bits place bit) self.new }
+        ensures ones { (bits : List Bool) → AreBits bits self.old → slice_get bits place ≡ Some (not bit) → self.new.ones ≡ ones (set bits place bit) }
+        ensures first { self.new.first ≡ self.old.first }
+    {
         self.bits[place] = bit;
         count_turned(&mut self.blocks, place / BLOCK, bit);
         count_turned(&mut self.groups, place / GROUP, bit);
         let ones = self.ones.saturating_add(u64::from(bit));
         self.ones = ones.saturating_sub(u64::from(!bit));
     }
+
+    // The first set bit, after one was turned that was the other way before.
+    fn first_turned(&self, place: usize, bit: bool) -> Option<usize>
+        ensures { (bits : List Bool) → AreCounted (set bits place bit) self.now → slice_get bits place ≡ Some (not bit) → self.now.first ≡ select bits 0 → result ≡ select (set bits place bit) 0 }
+    {
+        let Some(first) = self.first else {
+            return Some(place);
+        };
+        if first < place {
+            return Some(first);
+        }
+        if bit {
+            return Some(place);
+        }
+        self.next(place)
+    }
+
+    // The first set bit, where none is set before a place.
+    fn next(&self, place: usize) -> Option<usize>
+        ensures { (bits : List Bool) → AreCounted bits self.now → ones (take place bits) ≡ 0 → place < length bits → result ≡ select bits 0 }
+    {
+        let block = place / BLOCK * BLOCK;
+        let until = block.saturating_add(BLOCK).min(self.bits.len());
+        if let Some(near) = find_first(&self.bits, place, until) {
+            return Some(near);
+        }
+        self.search(place / GROUP, 0)
+    }
+
+    // The place of the set bit of a rank, where none is set before a group of blocks.
+    fn search(&self, from: usize, rank: u64) -> Option<usize>
+        ensures { (bits : List Bool) → AreCounted bits self.now → ones (take (4096 * from) bits) ≡ 0 → result ≡ select bits rank }
+    {
+        let group = find(&self.groups, from, rank)?;
+        let first = group.block.saturating_mul(GROUP / BLOCK);
+        let block = find(&self.blocks, first, group.rank)?;
+        let first = block.block.saturating_mul(BLOCK);
+        find_bit(&self.bits, first, block.rank)
+    }
+}
+
+/// The first set bit, with one more bit at the end.
+fn first_pushed(first: Option<usize>, place: usize, bit: bool) -> Option<usize>
+    ensures { (bits : List Bool) → first ≡ select bits 0 → place ≡ length bits → result ≡ select (bits ++ bit ∷ []) 0 }
+{
+    match first {
+        Some(first) => Some(first),
+        None => if bit { Some(place) } else { None },
+    }
+}
+
+/// The first set bit from a place on, up to another.
+fn find_first(bits: &[bool], from: usize, until: usize) -> Option<usize>
+    requires { until ≤ length bits.now }
+    ensures { IfSome result (IsFirstFrom bits.now from) }
+{
+    for place in from..until {
+        if bits[place] {
+            return Some(place);
+        }
+    }
+    None
 }
 
 /// The place of the set bit of a rank, counted from a place on.

@@ -14,4 +14,5 @@ returns c = λ bits are.
       blocks = c.in_ok-count_new.ensures 64 bits are.blocks (subst (λ n. IsBlockOf 64 (length bits) (n / 64)) (sym place) (in_block (length bits))) are.short;
       groups = c.in_ok-count_new-2.ensures 4096 bits are.groups (subst (λ n. IsBlockOf 4096 (length bits) (n / 4096)) (sym place) (in_group (length bits))) are.short;
       ones = omega (arith, c.saturating_add-self.ensures, unit, are.ones, ones_push bits c.args.bit, ones_few bits, are.short, one_small c.args.bit);
+      first = c.first_pushed-self.ensures bits are.first place;
     }
