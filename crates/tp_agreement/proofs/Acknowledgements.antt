@@ -6,10 +6,10 @@ use Rattle.tp_base.specs.declared.names.CommandId.{CommandId}
 use Rattle.tp_base.specs.declared.names.Made.{Made}
 use Rattle.tp_base.specs.declared.names.Made.TheVariants.{Proposal, Recovery}
 use Rattle.tp_quorum.specs.Choice.{present, greatest}
-use Rattle.tp_rules.proofs.Fit.{site_is}
-use Rattle.tp_rules.proofs.FitChoices.{is_there, present_counted}
-use Rattle.tp_rules.proofs.SendsOfProcess.{stamp}
-use Rattle.tp_rules.proofs.UpTo.{get_there}
+use Rattle.tp_rules.proofs.fit.Messages.{site_is}
+use Rattle.tp_rules.proofs.fit.Choices.{is_there, present_counted}
+use Rattle.tp_rules.proofs.sent.SendsOfProcess.{stamp}
+use Rattle.tp_rules.proofs.lists.UpTo.{get_there}
 use Rattle.tp_rules.specs.Sheet.{Proposed, is_made_by_proposal, is_proposal, made_of, stamp_proposed}
 use Rattle.tp_topology.specs.Counting.{count_up_to}
 use Rattle.tp_topology.specs.Shape.{fast_size}

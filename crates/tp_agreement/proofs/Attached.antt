@@ -9,7 +9,7 @@ use Rattle.tp_base.specs.declared.names.Made.TheVariants.{Proposal}
 use Rattle.tp_choice.specs.Choosing.{IsChosen, accepted, of_all, of_members}
 use Rattle.tp_choice.specs.declared.answer.RecoveryAnswer.{RecoveryAnswer}
 use Rattle.tp_quorum.specs.Choice.{present, greatest}
-use Rattle.tp_rules.proofs.FitChoices.{is_there}
+use Rattle.tp_rules.proofs.fit.Choices.{is_there}
 use Rattle.tp_rules.specs.Sheet.{Proposed}
 use Rattle.tp_topology.proofs.Meetings.{both, shared, share}
 use Rattle.tp_topology.proofs.Passing.{count_more}

@@ -13,10 +13,10 @@ use Rattle.tp_base.specs.declared.names.Rank.{Rank}
 use Rattle.tp_base.specs.declared.names.Site.{Site}
 use Rattle.tp_base.specs.declared.names.Stamp.{Stamp}
 use Rattle.tp_ops.specs.declared.command.Command.{Command}
-use Rattle.tp_rules.proofs.EachSent.{history_passes}
-use Rattle.tp_rules.proofs.Fit.{IsBodyOf, IsFit}
-use Rattle.tp_rules.proofs.InRange.{fit_handed_on}
-use Rattle.tp_rules.proofs.Selections.{each_get}
+use Rattle.tp_rules.proofs.sent.EachSent.{history_passes}
+use Rattle.tp_rules.proofs.fit.Messages.{IsBodyOf, IsFit}
+use Rattle.tp_rules.proofs.fit.InRange.{fit_handed_on}
+use Rattle.tp_rules.proofs.lists.Selections.{each_get}
 use Rattle.tp_rules.specs.Addresses.{accessed, is_site_of}
 use Rattle.tp_rules.specs.Journal.{IsSent}
 use Rattle.tp_rules.specs.Outcome.{Commit, commit_by, commits}

@@ -6,8 +6,8 @@ use Rattle.tp_base.specs.declared.names.Made.TheVariants.{Proposal}
 use Rattle.tp_choice.specs.Choosing.{IsChosen, accepted, of_all, of_members}
 use Rattle.tp_choice.specs.declared.answer.RecoveryAnswer.{RecoveryAnswer}
 use Rattle.tp_quorum.specs.Choice.{present, greatest, count_of}
-use Rattle.tp_rules.proofs.Fit.{site_is, site_known}
-use Rattle.tp_rules.proofs.FitChoices.{is_there}
+use Rattle.tp_rules.proofs.fit.Messages.{site_is, site_known}
+use Rattle.tp_rules.proofs.fit.Choices.{is_there}
 use Rattle.tp_topology.proofs.Meetings.{shared}
 use Rattle.tp_agreement.proofs.Sizes.{recovery_meets_fast}
 use Rattle.tp_topology.specs.Counting.{count_up_to}

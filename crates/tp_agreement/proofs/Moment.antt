@@ -9,8 +9,8 @@ use Rattle.tp_base.specs.declared.names.ActorName.TheVariants.{Process}
 use Rattle.tp_base.specs.declared.names.CommandId.{CommandId}
 use Rattle.tp_base.specs.declared.names.Site.{Site}
 use Rattle.tp_ops.specs.declared.command.Command.{Command}
-use Rattle.tp_rules.proofs.FitChoices.{ring_has_fast_size}
-use Rattle.tp_rules.proofs.SendsOfProcess.{stamp}
+use Rattle.tp_rules.proofs.fit.Choices.{ring_has_fast_size}
+use Rattle.tp_rules.proofs.sent.SendsOfProcess.{stamp}
 use Rattle.tp_rules.specs.Acts.{Act, Took}
 use Rattle.tp_rules.specs.Addresses.{is_site_of, rank_of, site}
 use Rattle.tp_rules.specs.Journal.{IsSent, acts}

@@ -7,7 +7,7 @@ use Rattle.tp_choice.proofs.Cases.{choice_cases}
 use Rattle.tp_choice.specs.Choosing.{IsChosen, accepted, of_all, of_members}
 use Rattle.tp_choice.specs.declared.answer.RecoveryAnswer.{RecoveryAnswer}
 use Rattle.tp_quorum.specs.Choice.{present, greatest}
-use Rattle.tp_rules.proofs.FitChoices.{is_there, present_counted}
+use Rattle.tp_rules.proofs.fit.Choices.{is_there, present_counted}
 use Rattle.tp_rules.specs.Sheet.{Proposed}
 use Rattle.tp_topology.specs.Counting.{count_up_to}
 use Rattle.tp_topology.specs.Shape.{recovery_size}

@@ -7,8 +7,8 @@ use Rattle.tp_choice.specs.Choosing.{accepted, of_all, of_members}
 use Rattle.tp_choice.specs.declared.answer.RecoveryAnswer.{RecoveryAnswer}
 use Rattle.tp_paxos.specs.Votes.{count_votes}
 use Rattle.tp_quorum.specs.Choice.{present}
-use Rattle.tp_rules.proofs.Fit.{site_is}
-use Rattle.tp_rules.proofs.SendsOfProcess.{stamp}
+use Rattle.tp_rules.proofs.fit.Messages.{site_is}
+use Rattle.tp_rules.proofs.sent.SendsOfProcess.{stamp}
 use Rattle.tp_agreement.proofs.Sizes.{recovery_meets_slow}
 use Rattle.tp_topology.specs.Shape.{slow_size}
 use Rattle.tp_wire.specs.declared.message.Body.TheVariants.{MConsensusAck}

@@ -15,7 +15,7 @@ use Rattle.tp_check.specs.Verdicts.{HasNoCause}
 use Rattle.tp_check.specs.declared.verdict.EntryCause.{EntryCause}
 use Rattle.tp_check.specs.declared.verdict.EntryCause.TheVariants.{Stranger, Dead, Message as NoMessage, Addressee, Plan, NotEnabled, Outputs}
 use Rattle.tp_rules.proofs.Journals.{run_none}
-use Rattle.tp_rules.proofs.Parcels.{parcel}
+use Rattle.tp_rules.proofs.sent.Parcels.{parcel}
 use Rattle.tp_rules.specs.Journal.{acts, identity_in, is_known, is_live, output_at}
 use Rattle.tp_rules.specs.Plan.{Fate, Lost, Times, deliveries_left, due_of, fate_of, is_planned}
 use Rattle.tp_rules.specs.Rules.{IsOfProcess, enabled}

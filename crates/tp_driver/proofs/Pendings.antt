@@ -10,9 +10,9 @@ use Rattle.tp_base.specs.declared.names.ActorName.{ActorName}
 use Rattle.tp_base.specs.declared.names.ActorName.TheVariants.{Process, Executor, Session}
 use Rattle.tp_base.specs.declared.names.Site.{Site}
 use Rattle.tp_netbook.proofs.Places.{place_get, sites_get}
-use Rattle.tp_rules.proofs.InRange.{sent_known}
+use Rattle.tp_rules.proofs.fit.InRange.{sent_known}
 use Rattle.tp_rules.proofs.OwnSteps.{executor_may, process_may, session_may}
-use Rattle.tp_rules.proofs.Parcels.{parcel, sent_output}
+use Rattle.tp_rules.proofs.sent.Parcels.{parcel, sent_output}
 use Rattle.tp_rules.specs.Executor as executor
 use Rattle.tp_rules.specs.Process as process
 use Rattle.tp_rules.specs.Session as session

@@ -17,10 +17,10 @@ use Rattle.tp_netbook.specs.Netbook.{AreNext}
 use Rattle.tp_netbook.specs.Places.{place_of}
 use Rattle.tp_script.specs.Accepted.{IsAccepted}
 use Rattle.tp_rules.proofs.Histories.{free_history}
-use Rattle.tp_rules.proofs.InRange.{sent_in_range}
+use Rattle.tp_rules.proofs.fit.InRange.{sent_in_range}
 use Rattle.tp_rules.proofs.Journals.{acts_other, picked_run_more, picked_run_none, run_more, run_none}
-use Rattle.tp_rules.proofs.Parcels.{output_sent, parcel}
-use Rattle.tp_rules.proofs.RunsEnd.{left_after}
+use Rattle.tp_rules.proofs.sent.Parcels.{output_sent, parcel}
+use Rattle.tp_rules.proofs.ends.RunsEnd.{left_after}
 use Rattle.tp_rules.specs.Acts.{Took}
 use Rattle.tp_rules.specs.Journal.{act_of, acts, identity_in, is_known, output_at, sent}
 use Rattle.tp_rules.specs.Left.{left}

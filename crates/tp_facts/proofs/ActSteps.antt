@@ -17,7 +17,7 @@ use Rattle.tp_paxos.specs.Votes.{count_votes, PutStamp, decision, is_put_at, vot
 use Rattle.tp_quorum.specs.Choice.{present, is_fast, fast_choice}
 use Rattle.tp_quorum.specs.declared.choice.FastChoice.{FastChoice}
 use Rattle.tp_quorum.specs.declared.choice.FastChoice.TheVariants.{Fast, Slow}
-use Rattle.tp_rules.proofs.SendsOfProcess.{stamp}
+use Rattle.tp_rules.proofs.sent.SendsOfProcess.{stamp}
 use Rattle.tp_rules.specs.Acts.{Act, Took, Did}
 use Rattle.tp_rules.specs.Addresses.{is_body_at, is_name_of, rank_of}
 use Rattle.tp_rules.specs.Process.{Step, ProcessState, accept_and_vote, answer_with_old_proposal, announced, follow_choice, commit_messages, decided, finished, conclude_fast_path, has_next, answer_recovery, learned, next_stamp, on_body, on_commit, on_consensus, on_consensus_ack, on_propose, on_propose_ack, on_rec_ack, on_rec_by_stamp, on_recover, on_submit, propose_and_acknowledge, proposing, propose_and_answer, put_recovered, react, recovered, recovering, submitted, voted, with_room, with_sheet}

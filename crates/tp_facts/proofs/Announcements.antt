@@ -11,8 +11,8 @@ use Rattle.tp_base.specs.declared.names.CommandId.{CommandId}
 use Rattle.tp_base.specs.declared.names.Pair.{Pair}
 use Rattle.tp_base.specs.declared.names.Site.{Site}
 use Rattle.tp_ops.specs.declared.command.Command.{Command}
-use Rattle.tp_rules.proofs.FitPromises.{Descends}
-use Rattle.tp_rules.proofs.SendsOfProcess.{each_to}
+use Rattle.tp_rules.proofs.fit.Promises.{Descends}
+use Rattle.tp_rules.proofs.sent.SendsOfProcess.{each_to}
 use Rattle.tp_rules.specs.Addresses.{executors_of}
 use Rattle.tp_rules.specs.Process.{ProcessState, announced, commit_reply, untold}
 use Rattle.tp_rules.specs.Sheet.{QuorumRule}

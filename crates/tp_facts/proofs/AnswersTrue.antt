@@ -8,7 +8,7 @@ use Rattle.tp_base.specs.Lists.{Each}
 use Rattle.tp_base.specs.declared.names.CommandId.{CommandId}
 use Rattle.tp_base.specs.declared.names.Site.{Site}
 use Rattle.tp_ops.specs.declared.command.Command.{Command}
-use Rattle.tp_rules.proofs.SendsOfProcess.{bumps_send, stamp}
+use Rattle.tp_rules.proofs.sent.SendsOfProcess.{bumps_send, stamp}
 use Rattle.tp_rules.specs.Acts.{Act}
 use Rattle.tp_rules.specs.Process.{bumps}
 use Rattle.tp_rules.specs.Sheet.{Proposed, QuorumRule, Sheet, made_of, stamp_of, stamp_proposed, stamp_told}

@@ -16,8 +16,8 @@ use Rattle.tp_base.specs.Partition.{partition_number}
 use Rattle.tp_base.specs.declared.names.CommandId.{CommandId}
 use Rattle.tp_ops.specs.Parts.{is_accessed, is_on, key_of}
 use Rattle.tp_ops.specs.declared.command.Command.{Command}
-use Rattle.tp_rules.proofs.Tallies.{in_filter}
-use Rattle.tp_rules.proofs.UpTo.{get_map, get_up_to}
+use Rattle.tp_rules.proofs.lists.Tallies.{in_filter}
+use Rattle.tp_rules.proofs.lists.UpTo.{get_map, get_up_to}
 use Rattle.tp_rules.specs.Outcome.{accesses}
 use Rattle.tp_rules.specs.Outcome.{command_of}
 use Rattle.tp_script.specs.Accepted.{IsAccepted, commands_by}

@@ -10,7 +10,7 @@ use Rattle.tp_base.specs.Lists.{IsIn}
 use Rattle.tp_base.specs.Tables.{nth}
 use Rattle.tp_base.specs.declared.names.ActorName.{ActorName}
 use Rattle.tp_rules.proofs.ActsMore.{acts_step, delivered_act}
-use Rattle.tp_rules.proofs.UpTo.{nth_in}
+use Rattle.tp_rules.proofs.lists.UpTo.{nth_in}
 use Rattle.tp_rules.specs.Acts.{Act, Took, Did}
 use Rattle.tp_rules.specs.Acts.{Act, Took}
 use Rattle.tp_rules.specs.Journal.{act_of, acts, IsSent}

@@ -7,7 +7,7 @@ use Rattle.tp_base.specs.declared.names.Site.{Site}
 use Rattle.tp_choice.specs.declared.answer.RecoveryAnswer.{RecoveryAnswer}
 use Rattle.tp_ops.specs.declared.command.Command.{Command}
 use Rattle.tp_paxos.specs.Votes.{PutStamp}
-use Rattle.tp_rules.proofs.Selections.{IfAny}
+use Rattle.tp_rules.proofs.lists.Selections.{IfAny}
 use Rattle.tp_rules.specs.Acts.{Act}
 use Rattle.tp_rules.specs.Sheet.{Proposed, QuorumRule}
 use Rattle.tp_wire.specs.declared.message.Body.{Body}

@@ -11,8 +11,8 @@ use Rattle.tp_base.specs.declared.names.CommandId.{CommandId}
 use Rattle.tp_base.specs.declared.names.Pair.{Pair}
 use Rattle.tp_base.specs.declared.names.Site.{Site}
 use Rattle.tp_ops.specs.declared.command.Command.{Command}
-use Rattle.tp_rules.proofs.FitPromises.{descends_higher}
-use Rattle.tp_rules.proofs.SendsOfProcess.{each_to}
+use Rattle.tp_rules.proofs.fit.Promises.{descends_higher}
+use Rattle.tp_rules.proofs.sent.SendsOfProcess.{each_to}
 use Rattle.tp_rules.specs.Acts.{Act}
 use Rattle.tp_rules.specs.Addresses.{executors_of}
 use Rattle.tp_rules.specs.Process.{Step, ProcessState, announced, start, state_after, commit_reply, untold}

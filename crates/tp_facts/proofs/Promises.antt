@@ -7,7 +7,7 @@ use Rattle.std.specs.Prelude.{filter, nat_lt, reverse, ◌==◌}
 use Rattle.tp_base.specs.declared.names.CommandId.{CommandId}
 use Rattle.tp_base.specs.declared.names.Pair.{Pair}
 use Rattle.tp_base.specs.Lists.{IsIn}
-use Rattle.tp_rules.proofs.FitPromises.{Descends}
+use Rattle.tp_rules.proofs.fit.Promises.{Descends}
 use Rattle.tp_topology.specs.Stability.{attached_to}
 
 -- no number above the greatest is attached

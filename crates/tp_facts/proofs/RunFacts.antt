@@ -14,10 +14,10 @@ use Rattle.tp_base.specs.declared.names.CommandId.{CommandId}
 use Rattle.tp_base.specs.declared.names.Site.{Site}
 use Rattle.tp_base.specs.declared.names.Stamp.{Stamp}
 use Rattle.tp_ops.specs.declared.command.Command.{Command}
-use Rattle.tp_rules.proofs.CarriedCommands.{Carries}
-use Rattle.tp_rules.proofs.EachSent.{acts_pass, history_passes}
-use Rattle.tp_rules.proofs.Fit.{IsBodyOf, IsFit, IsFitAct, site_is}
-use Rattle.tp_rules.proofs.InRange.{fit_handed_on}
+use Rattle.tp_rules.proofs.sent.CarriedCommands.{Carries}
+use Rattle.tp_rules.proofs.sent.EachSent.{acts_pass, history_passes}
+use Rattle.tp_rules.proofs.fit.Messages.{IsBodyOf, IsFit, IsFitAct, site_is}
+use Rattle.tp_rules.proofs.fit.InRange.{fit_handed_on}
 use Rattle.tp_rules.specs.Acts.{Act, Took, Did}
 use Rattle.tp_rules.specs.Addresses.{is_site_of}
 use Rattle.tp_rules.specs.Journal.{acts, IsSent}

@@ -11,8 +11,8 @@ use Rattle.tp_base.specs.declared.names.ActorName.{ActorName}
 use Rattle.tp_base.specs.declared.names.CommandId.{CommandId}
 use Rattle.tp_base.specs.declared.names.Site.{Site}
 use Rattle.tp_ops.specs.declared.command.Command.{Command}
-use Rattle.tp_rules.proofs.Selections.{each_image}
-use Rattle.tp_rules.proofs.SendsOfProcess.{bumps_send, commit_messages_send, each_to, stamp}
+use Rattle.tp_rules.proofs.lists.Selections.{each_image}
+use Rattle.tp_rules.proofs.sent.SendsOfProcess.{bumps_send, commit_messages_send, each_to, stamp}
 use Rattle.tp_rules.specs.Acts.{Act, Took, Did}
 use Rattle.tp_rules.specs.Acts.{Took}
 use Rattle.tp_rules.specs.Addresses.{is_site_of, partition_of, rank_of, site}

@@ -17,9 +17,9 @@ use Rattle.tp_base.specs.declared.names.ActorName.{ActorName}
 use Rattle.tp_base.specs.declared.names.Site.{Site}
 use Rattle.tp_ops.specs.declared.command.Command.{Command}
 use Rattle.tp_rules.proofs.ActsMore.{acts_step, acts_then}
-use Rattle.tp_rules.proofs.LaterKinds.{executor_silent, session_silent}
-use Rattle.tp_rules.proofs.SendsOfProcess.{EachSent, each_to, on_submit_sends, on_propose_sends, on_payload_sends, on_propose_ack_sends, on_consensus_sends, on_consensus_ack_sends, on_rec_sends, on_rec_ack_sends, on_recover_sends, on_commit_sends, on_announce_sends, with_room_sends}
-use Rattle.tp_rules.proofs.SendsOfProcess.{each_to}
+use Rattle.tp_rules.proofs.ends.LaterKinds.{executor_silent, session_silent}
+use Rattle.tp_rules.proofs.sent.SendsOfProcess.{EachSent, each_to, on_submit_sends, on_propose_sends, on_payload_sends, on_propose_ack_sends, on_consensus_sends, on_consensus_ack_sends, on_rec_sends, on_rec_ack_sends, on_recover_sends, on_commit_sends, on_announce_sends, with_room_sends}
+use Rattle.tp_rules.proofs.sent.SendsOfProcess.{each_to}
 use Rattle.tp_rules.specs.Acts.{Act, Client, Took, Did}
 use Rattle.tp_rules.specs.Acts.{Act, Took, Did, Client}
 use Rattle.tp_rules.specs.Acts.{Took}

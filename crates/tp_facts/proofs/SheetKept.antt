@@ -11,7 +11,7 @@ use Rattle.tp_choice.specs.declared.answer.RecoveryAnswer.{RecoveryAnswer}
 use Rattle.tp_ops.specs.declared.command.Command.{Command}
 use Rattle.tp_paxos.specs.Votes.{voted_too}
 use Rattle.tp_quorum.specs.Choice.{present, greatest}
-use Rattle.tp_rules.proofs.SendsOfProcess.{stamp}
+use Rattle.tp_rules.proofs.sent.SendsOfProcess.{stamp}
 use Rattle.tp_rules.specs.Acts.{Act}
 use Rattle.tp_rules.specs.Addresses.{rank_of}
 use Rattle.tp_rules.specs.Sheet.{QuorumRule, Sheet, blank}

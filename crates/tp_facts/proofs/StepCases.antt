@@ -13,7 +13,7 @@ use Rattle.tp_choice.specs.declared.answer.RecoveryAnswer.{RecoveryAnswer}
 use Rattle.tp_ops.specs.declared.command.Command.{Command}
 use Rattle.tp_paxos.specs.Votes.{PutStamp, count_votes, voted_too}
 use Rattle.tp_quorum.specs.Choice.{present, greatest, is_fast}
-use Rattle.tp_rules.proofs.SendsOfProcess.{stamp}
+use Rattle.tp_rules.proofs.sent.SendsOfProcess.{stamp}
 use Rattle.tp_rules.specs.Acts.{Act, Took, Did}
 use Rattle.tp_rules.specs.Addresses.{message, rank_of}
 use Rattle.tp_rules.specs.Process.{Step, ProcessState, announced, answer, asked, bumps, commit_messages, proposals, put_to_vote, commit_reply}

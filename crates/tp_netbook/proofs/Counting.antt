@@ -12,7 +12,7 @@ use Rattle.tp_netbook.specs.Netbook.{AreCounted, IsCounted, IsCountedAt}
 use Rattle.tp_netbook.specs.Places.{place_of_site}
 use Rattle.tp_netbook.specs.declared.netbook.Netbook.{Netbook}
 use Rattle.tp_netbook.specs.declared.watch.Watch.{Watch}
-use Rattle.tp_rules.proofs.Parcels.{parcel}
+use Rattle.tp_rules.proofs.sent.Parcels.{parcel}
 use Rattle.tp_rules.specs.Journal.{numbered}
 use Rattle.tp_rules.specs.declared.event.Event.{Event}
 use Rattle.tp_rules.specs.declared.event.Parcel.{Parcel}

@@ -22,8 +22,8 @@ use Rattle.tp_netbook.specs.Outputs.{event_of, loses, output_of}
 use Rattle.tp_netbook.specs.Routes.{route_of, same_route}
 use Rattle.tp_netbook.specs.declared.inbox.Waiting.{Waiting}
 use Rattle.tp_netbook.specs.declared.output.Output.{Output}
-use Rattle.tp_rules.proofs.Parcels.{numbered_parts, output_sent, parcel, sent_output, sent_within}
-use Rattle.tp_rules.proofs.Tallies.{filter_in, filter_no, filter_none, filter_yes, in_filter}
+use Rattle.tp_rules.proofs.sent.Parcels.{numbered_parts, output_sent, parcel, sent_output, sent_within}
+use Rattle.tp_rules.proofs.lists.Tallies.{filter_in, filter_no, filter_none, filter_yes, in_filter}
 use Rattle.tp_rules.specs.Journal.{has_crashed, is_crash, is_delivery_of, is_live, is_loss_of, numbered, output_at, sent}
 use Rattle.tp_rules.specs.Plan.{Fate, Lost, Times, deliveries, deliveries_left, due, due_of, fate_by, fate_of, if_due, is_counted_to, is_planned, left_by, ordinal_of, plan_of, was_lost}
 use Rattle.tp_rules.specs.Runs.{FollowsLine, IsFor, IsFreeHistory, IsLost, MayHappen}

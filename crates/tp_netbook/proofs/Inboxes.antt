@@ -25,7 +25,7 @@ use Rattle.tp_netbook.specs.declared.inbox.Inbox.{Inbox}
 use Rattle.tp_netbook.specs.declared.inbox.Waiting.{Waiting}
 use Rattle.tp_netbook.specs.declared.output.Output.{Output}
 use Rattle.tp_netbook.specs.declared.watch.Watch.{Watch}
-use Rattle.tp_rules.proofs.Tallies.{filter_none}
+use Rattle.tp_rules.proofs.lists.Tallies.{filter_none}
 use Rattle.tp_rules.specs.Journal.{is_delivery_of, is_live, is_loss_of}
 use Rattle.tp_rules.specs.Plan.{Fate, deliveries, due_of, fate_by, left_by, was_lost}
 use Rattle.tp_rules.specs.declared.event.Entry.{Entry}

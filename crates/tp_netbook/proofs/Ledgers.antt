@@ -30,7 +30,7 @@ use Rattle.tp_netbook.specs.declared.ledger.Ledger.{Ledger}
 use Rattle.tp_netbook.specs.declared.output.Output.{Output}
 use Rattle.tp_netbook.specs.declared.watch.Watch.{Watch}
 use Rattle.tp_rules.proofs.Histories.{free_history}
-use Rattle.tp_rules.proofs.Parcels.{length-numbered, output_sent, parcel, sent_within}
+use Rattle.tp_rules.proofs.sent.Parcels.{length-numbered, output_sent, parcel, sent_within}
 use Rattle.tp_rules.specs.Addresses.{is_site_of}
 use Rattle.tp_rules.specs.Journal.{has_crashed, is_known, is_live, numbered, output_at, sent}
 use Rattle.tp_rules.specs.Pending.{sites_of}

@@ -13,8 +13,8 @@ use Rattle.tp_netbook.specs.Netbook.{added, new_outputs, next_number}
 use Rattle.tp_netbook.specs.Outputs.{loses, output_of}
 use Rattle.tp_netbook.specs.Routes.{route_of, same_route}
 use Rattle.tp_netbook.specs.declared.output.Output.{Output}
-use Rattle.tp_rules.proofs.Parcels.{numbered_parts, parcel}
-use Rattle.tp_rules.proofs.Tallies.{filter_none, filter_yes}
+use Rattle.tp_rules.proofs.sent.Parcels.{numbered_parts, parcel}
+use Rattle.tp_rules.proofs.lists.Tallies.{filter_none, filter_yes}
 use Rattle.tp_rules.specs.Journal.{numbered, sent}
 use Rattle.tp_rules.specs.Plan.{Fate, deliveries_left, fate_by, fate_of, is_counted_to, left_by, ordinal_of}
 use Rattle.tp_rules.specs.Runs.{IsFreeHistory}

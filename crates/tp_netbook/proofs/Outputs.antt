@@ -6,9 +6,9 @@ use Rattle.std.proofs.lemmas.List.{length-append}
 use Rattle.tp_base.specs.Lists.{IsIn}
 use Rattle.tp_netbook.specs.Outputs.{is_named, loses, output_of, passed}
 use Rattle.tp_netbook.specs.declared.output.Output.{Output}
-use Rattle.tp_rules.proofs.HowMany.{outputs_few}
-use Rattle.tp_rules.proofs.Parcels.{fate_stays, length-numbered, output_sent, parcel, sent_within}
-use Rattle.tp_rules.proofs.Tallies.{count_no, count_yes, filter_no, filter_yes}
+use Rattle.tp_rules.proofs.ends.HowMany.{outputs_few}
+use Rattle.tp_rules.proofs.sent.Parcels.{fate_stays, length-numbered, output_sent, parcel, sent_within}
+use Rattle.tp_rules.proofs.lists.Tallies.{count_no, count_yes, filter_no, filter_yes}
 use Rattle.tp_rules.specs.Journal.{is_delivery_of, is_loss_of, numbered, output_at, sent}
 use Rattle.tp_rules.specs.Plan.{Fate, Lost, Times, deliveries, deliveries_left, fate_of, left_by, was_lost}
 use Rattle.tp_rules.specs.Runs.{FollowsRules, IsFor, IsFreeHistory, MayHappen}

@@ -13,7 +13,7 @@ use Rattle.tp_base.specs.declared.names.ActorName.{ActorName}
 use Rattle.tp_base.specs.declared.names.ActorName.TheVariants.{Process, Executor, Session}
 use Rattle.tp_base.specs.declared.names.Site.{Site}
 use Rattle.tp_netbook.specs.Places.{place_of, place_of_site}
-use Rattle.tp_rules.proofs.Fit.{between_is, is_between-from, site_is, site_known}
+use Rattle.tp_rules.proofs.fit.Messages.{between_is, is_between-from, site_is, site_known}
 use Rattle.tp_rules.specs.Addresses.{is_site_of, site}
 use Rattle.tp_rules.specs.Journal.{is_known, ranks_of}
 use Rattle.tp_rules.specs.Pending.{actors_of, sites_of}

@@ -9,7 +9,7 @@ use Rattle.tp_netbook.specs.Netbook.{next_number}
 use Rattle.tp_netbook.specs.Routes.{AreCounts, HasCounted, counted_in, route_of, same_route}
 use Rattle.tp_netbook.specs.declared.route.Route.{Route}
 use Rattle.tp_netbook.specs.declared.route.Routes.{Routes}
-use Rattle.tp_rules.proofs.Tallies.{filter_length, filter_no, filter_yes}
+use Rattle.tp_rules.proofs.lists.Tallies.{filter_length, filter_no, filter_yes}
 use Rattle.tp_rules.specs.declared.event.Parcel.{Parcel}
 
 module _ (before : List Parcel) (p : Parcel) (old new : Routes) (number : ℕ) (are : AreCounts before old) (one : HasCounted old new (route_of p) number)

@@ -24,8 +24,8 @@ use Rattle.tp_netbook.specs.Routes.{AreCounts}
 use Rattle.tp_netbook.specs.declared.netbook.Netbook.{Netbook}
 use Rattle.tp_netbook.specs.declared.output.Output.{Output}
 use Rattle.tp_rules.proofs.Histories.{free_history}
-use Rattle.tp_rules.proofs.InRange.{sent_known}
-use Rattle.tp_rules.proofs.Parcels.{sent_within}
+use Rattle.tp_rules.proofs.fit.InRange.{sent_known}
+use Rattle.tp_rules.proofs.sent.Parcels.{sent_within}
 use Rattle.tp_rules.specs.Journal.{acts, identity_in, is_known, is_live, numbered, sent}
 use Rattle.tp_rules.specs.Pending.{actors_of, due_item, event_by, inner_item, is_waiting, item, own_item, parcel_item, pending, sites_of}
 use Rattle.tp_rules.specs.Plan.{Fate, Lost, Times, deliveries_left, fate_of}

@@ -17,7 +17,7 @@ use Rattle.tp_netbook.specs.Places.{place_of_site}
 use Rattle.tp_netbook.specs.declared.line.Line.{Line}
 use Rattle.tp_netbook.specs.declared.netbook.Netbook.{Netbook}
 use Rattle.tp_netbook.specs.declared.watch.Watch.{Watch}
-use Rattle.tp_rules.proofs.Tallies.{count_no, count_yes, filter_length, filter_no, filter_yes}
+use Rattle.tp_rules.proofs.lists.Tallies.{count_no, count_yes, filter_length, filter_no, filter_yes}
 use Rattle.tp_rules.specs.Addresses.{is_site_of}
 use Rattle.tp_rules.specs.Journal.{has_crashed, is_crash, is_known, is_live}
 use Rattle.tp_rules.specs.Pending.{due_item, inner_item, sites_of}

@@ -17,8 +17,8 @@ use Rattle.tp_rules.specs.declared.event.Entry.{Entry}
 use Rattle.tp_script.specs.Accepted.{IsAccepted}
 use Rattle.tp_script.specs.declared.script.Script.{Script}
 use Rattle.tp_topology.specs.Stability.{Telling, attached_to, is_stable}
-use Rattle.tp_rules.proofs.Provenance.{IsOf, committed_provenance}
-use Rattle.tp_rules.proofs.Unexecuted.{executor_of}
+use Rattle.tp_rules.proofs.sent.Provenance.{IsOf, committed_provenance}
+use Rattle.tp_rules.proofs.ends.Unexecuted.{executor_of}
 use Rattle.tp_facts.proofs.Commands.{accesses_within, command_is}
 use Rattle.tp_facts.proofs.Deliveries.{acts_were_sent}
 use Rattle.tp_facts.specs.Settled.{Settled, is_proposed, sheet_at}

@@ -26,11 +26,11 @@ use Rattle.tp_topology.specs.Stability.{is_stable}
 use Rattle.tp_wire.specs.declared.message.Body.TheVariants.{MStable}
 use Rattle.tp_wire.specs.declared.message.Message.{Message}
 use Rattle.tp_rules.proofs.ActsMore.{acts_then}
-use Rattle.tp_rules.proofs.LaterKinds.{executor_silent}
-use Rattle.tp_rules.proofs.SendsOfProcess.{each_to}
-use Rattle.tp_rules.proofs.Tallies.{in_filter}
-use Rattle.tp_rules.proofs.Unexecuted.{executor_of, executor_remembers}
-use Rattle.tp_rules.proofs.UpTo.{in_up_to}
+use Rattle.tp_rules.proofs.ends.LaterKinds.{executor_silent}
+use Rattle.tp_rules.proofs.sent.SendsOfProcess.{each_to}
+use Rattle.tp_rules.proofs.lists.Tallies.{in_filter}
+use Rattle.tp_rules.proofs.ends.Unexecuted.{executor_of, executor_remembers}
+use Rattle.tp_rules.proofs.lists.UpTo.{in_up_to}
 use Rattle.tp_facts.proofs.Commands.{accessed_from}
 use Rattle.tp_facts.proofs.Tables.{any_in, all_in}
 use Rattle.tp_facts.proofs.Senders.{may_send, output_sender}

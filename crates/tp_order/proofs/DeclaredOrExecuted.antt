@@ -11,7 +11,7 @@ use Rattle.tp_rules.specs.Outcome.{executions}
 use Rattle.tp_rules.specs.Runs.{IsFreeHistory}
 use Rattle.tp_rules.specs.declared.event.Entry.{Entry}
 use Rattle.tp_script.specs.declared.script.Script.{Script}
-use Rattle.tp_rules.proofs.Unexecuted.{executor_of, executor_remembers}
+use Rattle.tp_rules.proofs.ends.Unexecuted.{executor_of, executor_remembers}
 use Rattle.tp_order.proofs.Declarations.{IsDeclaredIn}
 use Rattle.tp_order.proofs.EntryKinds.{QuietEntry, Declaration, Execution}
 use Rattle.tp_order.proofs.Executions.{site_cases, executions_stay, execution_is_added, others_execute_nothing, executions_grow, least_is_waiting}

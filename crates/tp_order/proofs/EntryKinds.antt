@@ -29,7 +29,7 @@ use Rattle.tp_wire.specs.declared.message.Message.{Message}
 use Rattle.tp_rules.proofs.ActsMore.{acts_step, acts_then, delivered_act}
 use Rattle.tp_rules.proofs.Journals.{acts_of_others}
 use Rattle.tp_rules.proofs.OwnSteps.{executor_may, execute_may, declare_may}
-use Rattle.tp_rules.proofs.Unexecuted.{executor_of}
+use Rattle.tp_rules.proofs.ends.Unexecuted.{executor_of}
 use Rattle.tp_rules.specs.Executor as executor
 
 -- between two states nothing was executed or declared

@@ -17,9 +17,9 @@ use Rattle.tp_rules.specs.Outcome.{executions, executed_by, at_end}
 use Rattle.tp_rules.specs.Runs.{IsFreeHistory}
 use Rattle.tp_rules.specs.declared.event.Entry.{Entry}
 use Rattle.tp_script.specs.declared.script.Script.{Script}
-use Rattle.tp_rules.proofs.Provenance.{committed_provenance, IsOf}
-use Rattle.tp_rules.proofs.Tallies.{filter_in}
-use Rattle.tp_rules.proofs.Unexecuted.{executor_of, least_in}
+use Rattle.tp_rules.proofs.sent.Provenance.{committed_provenance, IsOf}
+use Rattle.tp_rules.proofs.lists.Tallies.{filter_in}
+use Rattle.tp_rules.proofs.ends.Unexecuted.{executor_of, least_in}
 use Rattle.tp_order.proofs.EntryKinds.{EntryKind, quiet, declares, executes, kind_of}
 use Rattle.tp_rules.specs.Executor as executor
 

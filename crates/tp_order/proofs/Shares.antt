@@ -8,7 +8,7 @@ use Rattle.tp_base.specs.declared.names.CommandId.{CommandId}
 use Rattle.tp_rules.specs.Outcome.{line, share, accesses, command_of}
 use Rattle.tp_rules.specs.declared.event.Entry.{Entry}
 use Rattle.tp_script.specs.declared.script.Script.{Script}
-use Rattle.tp_rules.proofs.Tallies.{filter_in, in_filter}
+use Rattle.tp_rules.proofs.lists.Tallies.{filter_in, in_filter}
 
 -- a partition's share of the line
 abbrev pub line_share : Script → List Entry → ℕ → List CommandId

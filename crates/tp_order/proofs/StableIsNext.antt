@@ -17,8 +17,8 @@ use Rattle.tp_rules.specs.declared.event.Entry.{Entry}
 use Rattle.tp_script.specs.Accepted.{IsAccepted}
 use Rattle.tp_script.specs.declared.script.Script.{Script}
 use Rattle.tp_topology.specs.Stability.{is_stable}
-use Rattle.tp_rules.proofs.Tallies.{in_filter}
-use Rattle.tp_rules.proofs.Unexecuted.{executor_of}
+use Rattle.tp_rules.proofs.lists.Tallies.{in_filter}
+use Rattle.tp_rules.proofs.ends.Unexecuted.{executor_of}
 use Rattle.tp_facts.specs.Settled.{Settled}
 use Rattle.tp_order.proofs.CommittedAndDue.{IsDueByFinalKey, committed_is_due, due_is_committed}
 use Rattle.tp_order.proofs.EntryKinds.{Declaration, Execution}

@@ -8,8 +8,8 @@ use Rattle.tp_base.specs.declared.names.ActorName.{ActorName}
 use Rattle.tp_base.specs.declared.names.CommandId.{CommandId}
 use Rattle.tp_base.specs.declared.names.Pair.{Pair}
 use Rattle.tp_ops.specs.declared.command.Command.{Command}
-use Rattle.tp_rules.proofs.Fit.{site_known}
-use Rattle.tp_rules.proofs.FitPromises.{Descends}
+use Rattle.tp_rules.proofs.fit.Messages.{site_known}
+use Rattle.tp_rules.proofs.fit.Promises.{Descends}
 use Rattle.tp_rules.specs.Addresses.{partition_of, rank_of, site}
 use Rattle.tp_rules.specs.Journal.{IsSent}
 use Rattle.tp_rules.specs.Runs.{IsFreeHistory}

@@ -8,7 +8,7 @@ use Rattle.tp_base.specs.Limits.{IsFrom}
 use Rattle.tp_print.proofs.Numbered.{all_counted, length-flat_map-same, of_session}
 use Rattle.tp_print.specs.Report.{all_ids, id_of, ids_of, open_count, text_line}
 use Rattle.tp_print.specs.Summary.{answered_count, count_line, executed_line, summary_text}
-use Rattle.tp_rules.proofs.UpTo.{length-up_to}
+use Rattle.tp_rules.proofs.lists.UpTo.{length-up_to}
 use Rattle.tp_rules.specs.Outcome.{reply_to}
 use Rattle.tp_rules.specs.Pending.{sites_of}
 use Rattle.tp_rules.specs.declared.event.Entry.{Entry}

@@ -16,9 +16,9 @@ use Rattle.tp_ops.specs.declared.command.Command.{Command}
 use Rattle.tp_paxos.specs.Votes.{PutStamp, count_votes, decision, voted_by}
 use Rattle.tp_process.specs.State.{AreLow, IsHomed, IsLow, IsLowAnswer, IsLowPut}
 use Rattle.tp_quorum.specs.Choice.{greatest, present}
-use Rattle.tp_rules.proofs.FitChoices.{best_fit, greatest_by_low}
-use Rattle.tp_rules.proofs.FitStamps.{with_fit}
-use Rattle.tp_rules.proofs.Selections.{IfAny, each_replicate}
+use Rattle.tp_rules.proofs.fit.Choices.{best_fit, greatest_by_low}
+use Rattle.tp_rules.proofs.fit.Stamps.{with_fit}
+use Rattle.tp_rules.proofs.lists.Selections.{IfAny, each_replicate}
 use Rattle.tp_rules.specs.Addresses.{accessed, is_between, is_command_at}
 use Rattle.tp_rules.specs.Sheet.{Sheet, acknowledged, blank, final_stamp, with_command, putting, stamps_of, trying, with_accepted, with_answer, with_ballot, with_proposal, with_stamp, with_vote}
 use Rattle.tp_topology.specs.Shape.{Shape, slow_size}

@@ -26,13 +26,13 @@ use Rattle.tp_facts.proofs.Senders.{IsOfProcess, Sender, may_send, output_sender
 use Rattle.tp_ops.specs.Parts.{is_accessed}
 use Rattle.tp_ops.specs.declared.command.Command.{Command}
 use Rattle.tp_rules.proofs.ActsMore.{acts_step, acts_then}
-use Rattle.tp_rules.proofs.CarriedCommands.{Carries, Keeps, KeepsOnly, process_sends_only}
-use Rattle.tp_rules.proofs.Fit.{IsBodyOf, IsCommandHere, IsFit, IsFitAct, is_between-from, site_is}
-use Rattle.tp_rules.proofs.FitChoices.{ring_has_fast_size}
-use Rattle.tp_rules.proofs.FitRules.{process_sound}
-use Rattle.tp_rules.proofs.LaterKinds.{session_silent}
-use Rattle.tp_rules.proofs.Selections.{IfAny}
-use Rattle.tp_rules.proofs.Tallies.{filter_in}
+use Rattle.tp_rules.proofs.sent.CarriedCommands.{Carries, Keeps, KeepsOnly, process_sends_only}
+use Rattle.tp_rules.proofs.fit.Messages.{IsBodyOf, IsCommandHere, IsFit, IsFitAct, is_between-from, site_is}
+use Rattle.tp_rules.proofs.fit.Choices.{ring_has_fast_size}
+use Rattle.tp_rules.proofs.fit.Rules.{process_sound}
+use Rattle.tp_rules.proofs.ends.LaterKinds.{session_silent}
+use Rattle.tp_rules.proofs.lists.Selections.{IfAny}
+use Rattle.tp_rules.proofs.lists.Tallies.{filter_in}
 use Rattle.tp_rules.specs.Acts.{Act, Client, Took, Did}
 use Rattle.tp_rules.specs.Addresses.{accessed, is_between, is_body_at, is_command_at, is_name_of, is_site_of, message, partition_of, rank_of, site}
 use Rattle.tp_rules.specs.Journal.{IsSent, act_of, acts, client_of, is_known}

@@ -13,8 +13,8 @@ use Rattle.tp_base.specs.declared.names.Key.{Key}
 use Rattle.tp_base.specs.declared.names.Site.{Site}
 use Rattle.tp_ops.specs.declared.command.Command.{Command}
 use Rattle.tp_order.proofs.LeastKey.{least_at_most}
-use Rattle.tp_rules.proofs.Tallies.{filter_in, in_filter}
-use Rattle.tp_rules.proofs.Unexecuted.{least_in}
+use Rattle.tp_rules.proofs.lists.Tallies.{filter_in, in_filter}
+use Rattle.tp_rules.proofs.ends.Unexecuted.{least_in}
 use Rattle.tp_rules.specs.Addresses.{accessed, others_accessed, site}
 use Rattle.tp_rules.specs.Executor.{Committed, ExecutorState, committed_ids, enabled, enabled_of, is_heard, is_ready, is_undeclared, least, may_declare, may_execute, waiting}
 use Rattle.tp_rules.specs.declared.event.Inner.TheVariants.{Declare, Execute}

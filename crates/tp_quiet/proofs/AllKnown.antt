@@ -24,10 +24,10 @@ use Rattle.tp_base.proofs.Tables.{kept_replicate}
 use Rattle.tp_ops.specs.Parts.{is_accessed}
 use Rattle.tp_ops.specs.declared.command.Command.{Command}
 use Rattle.tp_rules.proofs.ActsMore.{acts_step, acts_then}
-use Rattle.tp_rules.proofs.SendsOfProcess.{stamp}
-use Rattle.tp_rules.proofs.Fit.{site_is}
-use Rattle.tp_rules.proofs.Tallies.{in_filter}
-use Rattle.tp_rules.proofs.UpTo.{in_up_to}
+use Rattle.tp_rules.proofs.sent.SendsOfProcess.{stamp}
+use Rattle.tp_rules.proofs.fit.Messages.{site_is}
+use Rattle.tp_rules.proofs.lists.Tallies.{in_filter}
+use Rattle.tp_rules.proofs.lists.UpTo.{in_up_to}
 use Rattle.tp_rules.specs.Acts.{Act, Took}
 use Rattle.tp_rules.specs.Addresses.{accessed, is_site_of, message, site}
 use Rattle.tp_rules.specs.Journal.{IsSent, act_of, acts}

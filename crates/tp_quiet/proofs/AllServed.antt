@@ -14,7 +14,7 @@ use Rattle.tp_facts.proofs.Invariant.{facts_hold}
 use Rattle.tp_facts.proofs.SamePartition.{IsPeer}
 use Rattle.tp_ops.specs.declared.command.Command.{Command}
 use Rattle.tp_paxos.specs.Votes.{PutStamp}
-use Rattle.tp_rules.proofs.Selections.{IfAny}
+use Rattle.tp_rules.proofs.lists.Selections.{IfAny}
 use Rattle.tp_rules.specs.Acts.{Act, Took, Did}
 use Rattle.tp_rules.specs.Addresses.{rank_of}
 use Rattle.tp_rules.specs.Process.{react, state_after}

@@ -11,7 +11,7 @@ use Rattle.tp_facts.proofs.Invariant.{facts_hold}
 use Rattle.tp_facts.proofs.Tables.{present_none}
 use Rattle.tp_ops.specs.declared.command.Command.{Command}
 use Rattle.tp_quorum.specs.Choice.{present}
-use Rattle.tp_rules.proofs.Selections.{IfAny}
+use Rattle.tp_rules.proofs.lists.Selections.{IfAny}
 use Rattle.tp_rules.specs.Acts.{Act}
 use Rattle.tp_rules.specs.Process.{react, state_after}
 use Rattle.tp_rules.specs.Sheet.{QuorumRule, Sheet, blank}

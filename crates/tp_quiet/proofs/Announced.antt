@@ -12,7 +12,7 @@ use Rattle.tp_base.specs.declared.names.Site.{Site}
 use Rattle.tp_facts.proofs.ActSteps.{step_of_act}
 use Rattle.tp_facts.proofs.Facts.{sent_by}
 use Rattle.tp_facts.proofs.StepCases.{ProcessStep, does_nothing, bumps_clock, announces, passes_commit_on, changes_sheet, attaches_proposal}
-use Rattle.tp_rules.proofs.UpTo.{in_up_to}
+use Rattle.tp_rules.proofs.lists.UpTo.{in_up_to}
 use Rattle.tp_rules.specs.Acts.{Act}
 use Rattle.tp_rules.specs.Addresses.{executors_of, message, site}
 use Rattle.tp_rules.specs.Process.{ProcessState, Step, announced, react, state_after, untold}

@@ -26,9 +26,9 @@ use Rattle.tp_rules.specs.declared.event.Item.{Item}
 use Rattle.tp_rules.specs.declared.event.Parcel.{Parcel}
 use Rattle.tp_rules.proofs.ActsMore.{acts_then}
 use Rattle.tp_rules.proofs.Histories.{free_history}
-use Rattle.tp_rules.proofs.InRange.{sent_known}
-use Rattle.tp_rules.proofs.Parcels.{output_sent, sent_output}
-use Rattle.tp_rules.proofs.Unannounced.{site_listed}
+use Rattle.tp_rules.proofs.fit.InRange.{sent_known}
+use Rattle.tp_rules.proofs.sent.Parcels.{output_sent, sent_output}
+use Rattle.tp_rules.proofs.ends.Unannounced.{site_listed}
 use Rattle.tp_script.specs.Accepted.{IsAccepted, IsPlanLineOf}
 use Rattle.tp_script.specs.declared.script.PlanLine.{PlanLine}
 use Rattle.tp_script.specs.declared.script.PlanLine.TheVariants.{Crash as CrashLine, Recover as RecoverLine, Lose, Repeat, RepeatAll}
@@ -36,8 +36,8 @@ use Rattle.tp_script.specs.declared.script.Script.{Script}
 use Rattle.tp_wire.specs.declared.message.Message.{Message}
 use Rattle.tp_quiet.specs.Finished.{is_harm, IsHarmless}
 use Rattle.tp_topology.specs.Counting.{up_to}
-use Rattle.tp_rules.proofs.UpTo.{in_up_to}
-use Rattle.tp_rules.proofs.Fit.{between_is}
+use Rattle.tp_rules.proofs.lists.UpTo.{in_up_to}
+use Rattle.tp_rules.proofs.fit.Messages.{between_is}
 
 -- lists
 

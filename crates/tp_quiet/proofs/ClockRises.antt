@@ -19,8 +19,8 @@ use Rattle.tp_paxos.specs.Votes.{PutStamp, count_votes, decision, voted_by, with
 use Rattle.tp_quorum.specs.Choice.{fast_choice, greatest, is_fast, present}
 use Rattle.tp_quorum.specs.declared.choice.FastChoice.{FastChoice}
 use Rattle.tp_quorum.specs.declared.choice.FastChoice.TheVariants.{Fast, Slow}
-use Rattle.tp_rules.proofs.FitStamps.{present_fit, with_fit}
-use Rattle.tp_rules.proofs.Selections.{IfAny}
+use Rattle.tp_rules.proofs.fit.Stamps.{present_fit, with_fit}
+use Rattle.tp_rules.proofs.lists.Selections.{IfAny}
 use Rattle.tp_rules.specs.Acts.{Act, Took, Did}
 use Rattle.tp_rules.specs.Addresses.{is_body_at, is_name_of, rank_of}
 use Rattle.tp_rules.specs.Process.{ProcessState, Step, accept_and_vote, answer_recovery, announced, answer_with_old_proposal, conclude_fast_path, decided, finished, follow_choice, has_next, learned, next_stamp, on_body, on_commit, on_consensus, on_consensus_ack, on_propose, on_propose_ack, on_rec_ack, on_rec_by_stamp, on_submit, propose_and_acknowledge, propose_and_answer, put_recovered, react, recovered, recovering, submitted, voted, with_room, with_sheet}

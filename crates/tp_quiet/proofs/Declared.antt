@@ -17,9 +17,9 @@ use Rattle.tp_base.specs.declared.names.Site.{Site}
 use Rattle.tp_ops.specs.declared.operation.Answer.{Answer}
 use Rattle.tp_order.proofs.EntryKinds.{IsQuiet, message_is_quiet}
 use Rattle.tp_rules.proofs.ActsMore.{acts_step}
-use Rattle.tp_rules.proofs.Tallies.{filter_in}
-use Rattle.tp_rules.proofs.Unexecuted.{least_in}
-use Rattle.tp_rules.proofs.UpTo.{in_up_to}
+use Rattle.tp_rules.proofs.lists.Tallies.{filter_in}
+use Rattle.tp_rules.proofs.ends.Unexecuted.{least_in}
+use Rattle.tp_rules.proofs.lists.UpTo.{in_up_to}
 use Rattle.tp_rules.specs.Acts.{Act, Took, Did}
 use Rattle.tp_rules.specs.Addresses.{executors_of, message, others_accessed, site}
 use Rattle.tp_rules.specs.Executor.{Committed, ExecutorState, Step, declarations, declare_least, execute_least, least, react, state_after, waiting}

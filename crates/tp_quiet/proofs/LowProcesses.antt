@@ -13,9 +13,9 @@ use Rattle.tp_base.specs.declared.names.Site.{Site}
 use Rattle.tp_choice.specs.declared.answer.RecoveryAnswer.{RecoveryAnswer}
 use Rattle.tp_facts.proofs.StepCases.{ProcessStep, does_nothing, bumps_clock, announces, passes_commit_on, changes_sheet, attaches_proposal}
 use Rattle.tp_ops.specs.declared.command.Command.{Command}
-use Rattle.tp_rules.proofs.FitStamps.{kept_fit}
-use Rattle.tp_rules.proofs.Selections.{IfAny, each_replicate}
-use Rattle.tp_rules.proofs.SendsOfProcess.{each_to}
+use Rattle.tp_rules.proofs.fit.Stamps.{kept_fit}
+use Rattle.tp_rules.proofs.lists.Selections.{IfAny, each_replicate}
+use Rattle.tp_rules.proofs.sent.SendsOfProcess.{each_to}
 use Rattle.tp_rules.specs.Acts.{Act, Took, Did}
 use Rattle.tp_rules.specs.Addresses.{executors_of}
 use Rattle.tp_rules.specs.Process.{ProcessState, Step, announced, commit_reply, start, untold}

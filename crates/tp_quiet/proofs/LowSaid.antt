@@ -11,9 +11,9 @@ use Rattle.tp_base.specs.declared.names.Site.{Site}
 use Rattle.tp_facts.proofs.StepCases.{IsFinal, untold, final, chosen_stamp, with_recovery_answer, SheetStep, submits, submits_and_acknowledges, proposes, decides_fast, puts_slow, accepts, decides_by_votes, learns, proposes_and_answers_recovery, answers_recovery, puts_recovered, starts_recovery}
 use Rattle.tp_ops.specs.declared.command.Command.{Command}
 use Rattle.tp_quorum.specs.Choice.{greatest, present}
-use Rattle.tp_rules.proofs.FitStamps.{kept_fit, present_fit}
-use Rattle.tp_rules.proofs.Selections.{IfAny, each_image, each_of_all}
-use Rattle.tp_rules.proofs.SendsOfProcess.{bumps_send, commit_messages_send, each_to, proposals_send, put_to_vote_sends, stamp}
+use Rattle.tp_rules.proofs.fit.Stamps.{kept_fit, present_fit}
+use Rattle.tp_rules.proofs.lists.Selections.{IfAny, each_image, each_of_all}
+use Rattle.tp_rules.proofs.sent.SendsOfProcess.{bumps_send, commit_messages_send, each_to, proposals_send, put_to_vote_sends, stamp}
 use Rattle.tp_rules.specs.Acts.{Act}
 use Rattle.tp_rules.specs.Addresses.{accessed, processes_of}
 use Rattle.tp_rules.specs.Process.{asked, bumps, commit_messages}

@@ -11,8 +11,8 @@ use Rattle.tp_choice.specs.declared.answer.RecoveryAnswer.{RecoveryAnswer}
 use Rattle.tp_facts.proofs.RuleTests.{stamp_put}
 use Rattle.tp_facts.proofs.StepCases.{SheetStep, submits_and_acknowledges, counts_acknowledgement, decides_fast, puts_slow, accepts, decides_by_votes, learns, counts_answer, puts_recovered, starts_recovery}
 use Rattle.tp_quorum.specs.Choice.{greatest}
-use Rattle.tp_rules.proofs.FitStamps.{with_fit, present_fit}
-use Rattle.tp_rules.proofs.Selections.{IfAny}
+use Rattle.tp_rules.proofs.fit.Stamps.{with_fit, present_fit}
+use Rattle.tp_rules.proofs.lists.Selections.{IfAny}
 use Rattle.tp_rules.specs.Acts.{Act, Took, Did}
 use Rattle.tp_rules.specs.Sheet.{Proposed, QuorumRule, Sheet}
 use Rattle.tp_wire.specs.declared.message.Body.{Body}

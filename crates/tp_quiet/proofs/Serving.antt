@@ -24,7 +24,7 @@ use Rattle.tp_quorum.specs.Choice.{fast_choice, present}
 use Rattle.tp_quorum.specs.declared.choice.FastChoice.{FastChoice}
 use Rattle.tp_quorum.specs.declared.choice.FastChoice.TheVariants.{Fast, Slow}
 use Rattle.tp_rules.specs.Addresses.{is_between, is_body_at, is_command_at, is_name_of, rank_of}
-use Rattle.tp_rules.proofs.Fit.{between_is}
+use Rattle.tp_rules.proofs.fit.Messages.{between_is}
 use Rattle.tp_rules.specs.Acts.{Took}
 use Rattle.tp_rules.specs.Process.{Step, ProcessState, accept_and_vote, answer_recovery, answer_with_old_proposal, conclude_fast_path, follow_choice, learned, next_stamp, on_body, on_commit, on_consensus, on_consensus_ack, on_propose, on_propose_ack, on_rec_ack, on_rec_by_stamp, on_submit, propose_and_acknowledge, propose_and_answer, put_recovered, react, recovered, submitted, voted, with_room, with_sheet}
 use Rattle.tp_rules.specs.Sheet.{Proposed, QuorumRule, Sheet, acknowledged, acknowledged_own, can_accept, can_acknowledge, can_answer, can_vote, is_fresh, is_full, is_made_by_proposal, is_member, is_recovered, is_untouched, putting, stamp_decided, stamp_of, with_answer, with_command, with_proposal, with_stamp, with_vote}

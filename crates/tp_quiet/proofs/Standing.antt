@@ -22,9 +22,9 @@ use Rattle.tp_facts.proofs.Tables.{present_with}
 use Rattle.tp_ops.specs.declared.command.Command.{Command}
 use Rattle.tp_paxos.specs.Votes.{PutStamp}
 use Rattle.tp_quorum.specs.Choice.{present}
-use Rattle.tp_rules.proofs.Selections.{IfAny}
-use Rattle.tp_rules.proofs.SendsOfProcess.{stamp}
-use Rattle.tp_rules.proofs.UpTo.{in_up_to}
+use Rattle.tp_rules.proofs.lists.Selections.{IfAny}
+use Rattle.tp_rules.proofs.sent.SendsOfProcess.{stamp}
+use Rattle.tp_rules.proofs.lists.UpTo.{in_up_to}
 use Rattle.tp_rules.specs.Acts.{Act, Took}
 use Rattle.tp_rules.specs.Addresses.{message, processes_of, rank_of, site, to_each}
 use Rattle.tp_rules.specs.Process.{asked, put_to_vote}

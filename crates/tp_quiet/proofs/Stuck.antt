@@ -26,10 +26,10 @@ use Rattle.tp_facts.proofs.Senders.{sent_by_process}
 use Rattle.tp_facts.specs.Settled.{sheet_at}
 use Rattle.tp_ops.specs.declared.command.Command.{Command}
 use Rattle.tp_paxos.specs.Votes.{PutStamp}
-use Rattle.tp_rules.proofs.Fit.{is_between-from, site_is}
-use Rattle.tp_rules.proofs.FitChoices.{ring_has_fast_size}
-use Rattle.tp_rules.proofs.Selections.{IfAny}
-use Rattle.tp_rules.proofs.SendsOfProcess.{stamp}
+use Rattle.tp_rules.proofs.fit.Messages.{is_between-from, site_is}
+use Rattle.tp_rules.proofs.fit.Choices.{ring_has_fast_size}
+use Rattle.tp_rules.proofs.lists.Selections.{IfAny}
+use Rattle.tp_rules.proofs.sent.SendsOfProcess.{stamp}
 use Rattle.tp_rules.specs.Acts.{Act, Took}
 use Rattle.tp_rules.specs.Addresses.{is_between, is_site_of, message, rank_of, site}
 use Rattle.tp_rules.specs.Journal.{IsSent, acts}

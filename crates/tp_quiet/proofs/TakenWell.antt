@@ -17,10 +17,10 @@ use Rattle.tp_facts.proofs.SamePartition.{IsPeer, from_own_partition}
 use Rattle.tp_facts.proofs.Senders.{sent_by_process}
 use Rattle.tp_ops.specs.declared.command.Command.{Command}
 use Rattle.tp_rules.proofs.ActsMore.{acts_step, acts_then}
-use Rattle.tp_rules.proofs.CarriedCommands.{Carries}
-use Rattle.tp_rules.proofs.EachSent.{acts_pass, history_passes}
-use Rattle.tp_rules.proofs.Fit.{IsBodyOf, IsFit, IsFitAct, site_is}
-use Rattle.tp_rules.proofs.InRange.{fit_handed_on}
+use Rattle.tp_rules.proofs.sent.CarriedCommands.{Carries}
+use Rattle.tp_rules.proofs.sent.EachSent.{acts_pass, history_passes}
+use Rattle.tp_rules.proofs.fit.Messages.{IsBodyOf, IsFit, IsFitAct, site_is}
+use Rattle.tp_rules.proofs.fit.InRange.{fit_handed_on}
 use Rattle.tp_rules.specs.Acts.{Act, Took, Did}
 use Rattle.tp_rules.specs.Addresses.{is_site_of, rank_of, site}
 use Rattle.tp_rules.specs.Journal.{IsSent, act_of, acts}

@@ -18,9 +18,9 @@ use Rattle.tp_facts.proofs.Facts.{IsGenuine, KeepsCommand}
 use Rattle.tp_facts.proofs.StepCases.{SheetStep, decides_fast, decides_by_votes, learns, ProcessStep}
 use Rattle.tp_base.proofs.Tables.{kept_with}
 use Rattle.tp_ops.specs.declared.command.Command.{Command}
-use Rattle.tp_rules.proofs.SendsOfProcess.{stamp}
-use Rattle.tp_rules.proofs.Tallies.{in_filter}
-use Rattle.tp_rules.proofs.UpTo.{in_up_to}
+use Rattle.tp_rules.proofs.sent.SendsOfProcess.{stamp}
+use Rattle.tp_rules.proofs.lists.Tallies.{in_filter}
+use Rattle.tp_rules.proofs.lists.UpTo.{in_up_to}
 use Rattle.tp_rules.specs.Acts.{Act, Took}
 use Rattle.tp_rules.specs.Addresses.{accessed, message, processes_of, rank_of, site}
 use Rattle.tp_rules.specs.Process.{ProcessState, Step, commit_messages}

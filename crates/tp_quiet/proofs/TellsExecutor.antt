@@ -27,7 +27,7 @@ use Rattle.tp_paxos.specs.Votes.{PutStamp, is_put_at}
 use Rattle.tp_quorum.specs.Choice.{fast_choice, greatest, is_fast, present}
 use Rattle.tp_quorum.specs.declared.choice.FastChoice.{FastChoice}
 use Rattle.tp_quorum.specs.declared.choice.FastChoice.TheVariants.{Fast, Slow}
-use Rattle.tp_rules.proofs.SendsOfProcess.{stamp}
+use Rattle.tp_rules.proofs.sent.SendsOfProcess.{stamp}
 use Rattle.tp_rules.specs.Acts.{Act, Took, Did}
 use Rattle.tp_rules.specs.Addresses.{accessed, is_body_at, is_name_of, message, rank_of}
 use Rattle.tp_rules.specs.Process.{ProcessState, Step, commit_messages, conclude_fast_path, decided, finished, follow_choice, learned, on_body, on_commit, on_consensus_ack, on_propose_ack, react, start, state_after, voted, with_room, with_sheet}

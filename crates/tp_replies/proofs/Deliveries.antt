@@ -29,8 +29,8 @@ use Rattle.tp_topology.specs.Counting.{up_to}
 use Rattle.tp_wire.specs.declared.message.Body.{Body}
 use Rattle.tp_wire.specs.declared.message.Body.TheVariants.{MResult}
 use Rattle.tp_wire.specs.declared.message.Message.{Message}
-use Rattle.tp_rules.proofs.Tallies.{in_filter}
-use Rattle.tp_rules.proofs.UpTo.{in_up_to}
+use Rattle.tp_rules.proofs.lists.Tallies.{in_filter}
+use Rattle.tp_rules.proofs.lists.UpTo.{in_up_to}
 use Rattle.tp_replies.specs.Executions.{IsAnswered, IsExecuted}
 use Rattle.tp_replies.proofs.SentResults.{result_is}
 

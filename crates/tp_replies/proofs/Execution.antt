@@ -18,9 +18,9 @@ use Rattle.tp_rules.specs.declared.event.Inner.TheVariants.{Execute}
 use Rattle.tp_script.specs.Accepted.{IsAccepted}
 use Rattle.tp_script.specs.declared.script.Script.{Script}
 use Rattle.tp_rules.proofs.OwnSteps.{executor_may}
-use Rattle.tp_rules.proofs.Provenance.{IsOf, committed_provenance}
-use Rattle.tp_rules.proofs.Tallies.{filter_in}
-use Rattle.tp_rules.proofs.Unexecuted.{executor_of, least_in}
+use Rattle.tp_rules.proofs.sent.Provenance.{IsOf, committed_provenance}
+use Rattle.tp_rules.proofs.lists.Tallies.{filter_in}
+use Rattle.tp_rules.proofs.ends.Unexecuted.{executor_of, least_in}
 
 -- an execution that the rules allow
 pub record Execution (script : Script) (older : List Entry) (s : Site) (id : CommandId) : Type 0 where

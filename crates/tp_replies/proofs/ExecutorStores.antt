@@ -28,7 +28,7 @@ use Rattle.tp_topology.specs.Shape.{Shape}
 use Rattle.tp_wire.specs.declared.message.Body.{Body}
 use Rattle.tp_wire.specs.declared.message.Body.TheVariants.{MPromises, MCommitted, MStable}
 use Rattle.tp_wire.specs.declared.message.Message.{Message}
-use Rattle.tp_rules.proofs.Unexecuted.{executor_of}
+use Rattle.tp_rules.proofs.ends.Unexecuted.{executor_of}
 use Rattle.tp_replies.specs.Stores.{partition_contents}
 use Rattle.tp_replies.specs.Stores.{partition_ops}
 use Rattle.tp_rules.specs.Acts.{Act}

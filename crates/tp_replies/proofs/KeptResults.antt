@@ -35,8 +35,8 @@ use Rattle.tp_topology.specs.Shape.{Shape}
 use Rattle.tp_wire.specs.declared.message.Body.{Body}
 use Rattle.tp_wire.specs.declared.message.Body.TheVariants.{MResult}
 use Rattle.tp_wire.specs.declared.message.Message.{Message}
-use Rattle.tp_rules.proofs.Fit.{is_between-from}
-use Rattle.tp_rules.proofs.Unsubmitted.{submitted_covers}
+use Rattle.tp_rules.proofs.fit.Messages.{is_between-from}
+use Rattle.tp_rules.proofs.ends.Unsubmitted.{submitted_covers}
 use Rattle.tp_replies.specs.SessionReply.{session_of}
 use Rattle.tp_replies.specs.Stores.{partition_contents, partition_ops}
 use Rattle.tp_replies.proofs.SentResults.{result_is}

@@ -33,9 +33,9 @@ use Rattle.tp_script.specs.declared.script.Script.{Script}
 use Rattle.tp_wire.specs.declared.message.Body.{Body}
 use Rattle.tp_wire.specs.declared.message.Body.TheVariants.{MResult, MStable}
 use Rattle.tp_wire.specs.declared.message.Message.{Message}
-use Rattle.tp_rules.proofs.LaterKinds.{executor_silent}
-use Rattle.tp_rules.proofs.SendsOfProcess.{each_to}
-use Rattle.tp_rules.proofs.Unexecuted.{executor_of}
+use Rattle.tp_rules.proofs.ends.LaterKinds.{executor_silent}
+use Rattle.tp_rules.proofs.sent.SendsOfProcess.{each_to}
+use Rattle.tp_rules.proofs.ends.Unexecuted.{executor_of}
 use Rattle.tp_replies.specs.Executions.{IsExecuted}
 use Rattle.tp_replies.specs.Stores.{partition_contents}
 use Rattle.tp_replies.proofs.Execution.{Execution, execution}

@@ -14,9 +14,9 @@ use Rattle.tp_facts.proofs.Commands.{command_is}
 use Rattle.tp_ops.specs.declared.command.Command.{Command}
 use Rattle.tp_rules.specs.Journal.{commands_of}
 use Rattle.tp_rules.specs.Outcome.{command_of}
-use Rattle.tp_rules.proofs.Fit.{command_in_range}
-use Rattle.tp_rules.proofs.Tallies.{filter_in, in_filter}
-use Rattle.tp_rules.proofs.UpTo.{get_map, get_up_to}
+use Rattle.tp_rules.proofs.fit.Messages.{command_in_range}
+use Rattle.tp_rules.proofs.lists.Tallies.{filter_in, in_filter}
+use Rattle.tp_rules.proofs.lists.UpTo.{get_map, get_up_to}
 use Rattle.tp_script.specs.Accepted.{IsAccepted, commands_by}
 use Rattle.tp_script.specs.declared.script.Script.{Script}
 

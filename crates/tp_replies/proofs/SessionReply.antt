@@ -19,7 +19,7 @@ use Rattle.tp_rules.specs.declared.event.Entry.{Entry}
 use Rattle.tp_script.specs.Accepted.{IsAccepted}
 use Rattle.tp_script.specs.declared.script.Script.{Script}
 use Rattle.tp_topology.specs.Counting.{up_to}
-use Rattle.tp_rules.proofs.Tallies.{filter_in}
+use Rattle.tp_rules.proofs.lists.Tallies.{filter_in}
 use Rattle.tp_replies.specs.SessionReply.{session_of, session_reply_to}
 use Rattle.tp_replies.proofs.KeptResults.{kept_is_first}
 use Rattle.tp_replies.proofs.SessionCommands.{command_at}

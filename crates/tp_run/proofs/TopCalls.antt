@@ -3,7 +3,7 @@ use Rattle.std.proofs.Common.{false, IfErr, ◌≡◌, ℕ, ◌+◌, ◌≤◌, 
 use Rattle.tp_driver.specs.Driving.{IsDriven}
 use Rattle.tp_print.specs.Report.{report_text}
 use Rattle.tp_print.specs.Summary.{summary_text}
-use Rattle.tp_rules.proofs.InRange.{run_in_range}
+use Rattle.tp_rules.proofs.fit.InRange.{run_in_range}
 use Rattle.tp_laws.proofs.Legal.{run_legal}
 use Rattle.tp_rules.proofs.Journals.{run_is_free}
 use Rattle.tp_rules.specs.Laws.{KeepsLaws}

@@ -5,8 +5,8 @@ use Rattle.std.proofs.lemmas.List.{length-reverse}
 use Rattle.std.proofs.lemmas.List.Elements.{filter-append}
 use Rattle.tp_base.specs.declared.names.ActorName.{ActorName}
 use Rattle.tp_rules.proofs.Journals.{sent_more}
-use Rattle.tp_rules.proofs.Parcels.{parcel, sent_within}
-use Rattle.tp_rules.proofs.Tallies.{filter_none}
+use Rattle.tp_rules.proofs.sent.Parcels.{parcel, sent_within}
+use Rattle.tp_rules.proofs.lists.Tallies.{filter_none}
 use Rattle.tp_rules.specs.Journal.{numbered, sent}
 use Rattle.tp_rules.specs.declared.event.Entry.{Entry}
 use Rattle.tp_rules.specs.declared.event.Parcel.{Parcel}

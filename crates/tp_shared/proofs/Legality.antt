@@ -14,10 +14,10 @@ use Rattle.tp_base.specs.Names.{same_name}
 use Rattle.tp_base.specs.declared.names.ActorName.{ActorName}
 use Rattle.tp_base.specs.declared.names.ActorName.TheVariants.{Process, Executor, Session}
 use Rattle.tp_base.specs.declared.names.Site.{Site}
-use Rattle.tp_rules.proofs.DeliveriesLeft.{deliveries_stay}
+use Rattle.tp_rules.proofs.ends.DeliveriesLeft.{deliveries_stay}
 use Rattle.tp_rules.proofs.Journals.{acts_of_others}
-use Rattle.tp_rules.proofs.Parcels.{fate_stays, output_sent, parcel, sent_within}
-use Rattle.tp_rules.proofs.Tallies.{filter_no, filter_yes}
+use Rattle.tp_rules.proofs.sent.Parcels.{fate_stays, output_sent, parcel, sent_within}
+use Rattle.tp_rules.proofs.lists.Tallies.{filter_no, filter_yes}
 use Rattle.tp_rules.specs.Acts.{Act, Did, Took}
 use Rattle.tp_rules.specs.Journal.{acts, has_crashed, identity_in, is_crash, is_delivery_of, is_live, is_loss_of, output_at}
 use Rattle.tp_rules.specs.Plan.{deliveries_left, due, due_of, fate_of, if_due, is_planned, plan_of}

@@ -8,7 +8,7 @@ use Rattle.tp_base.proofs.SameNames.{same_name_refl}
 use Rattle.tp_base.specs.Lists.{IsPrefixOf, has}
 use Rattle.tp_base.specs.Names.{same_name}
 use Rattle.tp_base.specs.declared.names.ActorName.{ActorName}
-use Rattle.tp_rules.proofs.Tallies.{filter_yes}
+use Rattle.tp_rules.proofs.lists.Tallies.{filter_yes}
 use Rattle.tp_rules.specs.declared.event.Entry.{Entry}
 use Rattle.tp_shared.proofs.Shown.{by_more, nothing_more}
 use Rattle.tp_shared.specs.Histories.{after, entries_by}

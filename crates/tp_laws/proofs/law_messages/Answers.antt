@@ -1,4 +1,4 @@
-use Rattle.tp_rules.proofs.InRange.{run_in_range}
+use Rattle.tp_rules.proofs.fit.InRange.{run_in_range}
 use Rattle.tp_laws.proofs.law_messages.Goals as goal
 
 pub returns : goal.returns

@@ -1,6 +1,6 @@
 use Rattle.std.proofs.Common.{length, ap, arith}
 use Rattle.std.specs.Prelude.{◌==◌}
-use Rattle.tp_rules.proofs.Selections.{filter_shorter}
+use Rattle.tp_rules.proofs.lists.Selections.{filter_shorter}
 use Rattle.tp_cast.proofs.actors.session.Goals as goal
 
 pub new-requires : goal.new-requires

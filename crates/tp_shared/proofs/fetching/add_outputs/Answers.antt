@@ -1,5 +1,5 @@
 use Rattle.std.proofs.Common.{◌++◌, ◌∷◌, [], ◌+◌, ◌∙◌, List, filter, ap, sym, arith}
-use Rattle.tp_rules.proofs.Parcels.{parcel}
+use Rattle.tp_rules.proofs.sent.Parcels.{parcel}
 use Rattle.tp_rules.specs.declared.event.Parcel.{Parcel}
 use Rattle.tp_shared.proofs.Addressed.{output_next}
 use Rattle.tp_shared.proofs.fetching.add_outputs.Goals as goal

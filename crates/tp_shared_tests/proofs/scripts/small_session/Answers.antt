@@ -1,6 +1,6 @@
 use Rattle.std.proofs.Common.{length, ap, arith}
 use Rattle.std.specs.Prelude.{◌==◌}
-use Rattle.tp_rules.proofs.Selections.{filter_shorter}
+use Rattle.tp_rules.proofs.lists.Selections.{filter_shorter}
 use Rattle.tp_shared_tests.proofs.scripts.small_session.Goals as goal
 
 pub new-requires : goal.new-requires

@@ -4,7 +4,7 @@ use Rattle.tp_netbook.proofs.Ledgers.{sends_next, sends_none}
 use Rattle.tp_netbook.proofs.Counting.{item_there, numbered_next}
 use Rattle.tp_netbook.specs.Ledger.{KeepsPlan, Sends}
 use Rattle.tp_netbook.proofs.ledger.Ledger.send.Goals as goal
-use Rattle.tp_rules.proofs.Parcels.{parcel}
+use Rattle.tp_rules.proofs.sent.Parcels.{parcel}
 use Rattle.tp_rules.specs.Journal.{numbered}
 use Rattle.tp_rules.specs.declared.event.Parcel.{Parcel}
 use Rattle.tp_wire.specs.declared.message.Message.{Message}

@@ -4,7 +4,7 @@ use Rattle.tp_netbook.proofs.Adding.{adds_next, adds_none}
 use Rattle.tp_netbook.proofs.Counting.{item_there, numbered_next}
 use Rattle.tp_netbook.specs.Netbook.{Adds, KeepsMarks, KeepsRest}
 use Rattle.tp_netbook.proofs.netbook.Netbook.add.Goals as goal
-use Rattle.tp_rules.proofs.Parcels.{parcel}
+use Rattle.tp_rules.proofs.sent.Parcels.{parcel}
 use Rattle.tp_rules.specs.Journal.{numbered}
 use Rattle.tp_rules.specs.declared.event.Parcel.{Parcel}
 use Rattle.tp_wire.specs.declared.message.Message.{Message}

@@ -13,8 +13,8 @@ use Rattle.tp_choice.specs.Choosing.{best_from, better, chosen_of_proposals, cho
 use Rattle.tp_choice.specs.declared.answer.RecoveryAnswer.{RecoveryAnswer}
 use Rattle.tp_ops.specs.declared.command.Command.{Command}
 use Rattle.tp_quorum.specs.Choice.{present}
-use Rattle.tp_rules.proofs.FitStamps.{with_fit}
-use Rattle.tp_rules.proofs.Selections.{IfAny, each_replicate}
+use Rattle.tp_rules.proofs.fit.Stamps.{with_fit}
+use Rattle.tp_rules.proofs.lists.Selections.{IfAny, each_replicate}
 use Rattle.tp_rules.specs.Sheet.{QuorumRule, ring_rule}
 use Rattle.tp_topology.proofs.Meetings.{IsShared, shared}
 use Rattle.tp_topology.proofs.Passing.{all_each}

@@ -15,12 +15,12 @@ use Rattle.tp_base.specs.declared.names.Pair.{Pair}
 use Rattle.tp_choice.specs.declared.answer.RecoveryAnswer.{RecoveryAnswer}
 use Rattle.tp_ops.specs.declared.command.Command.{Command}
 use Rattle.tp_paxos.specs.Votes.{PutStamp, count_votes, decision, voted_by}
-use Rattle.tp_rules.proofs.Distinct.{Distinct}
-use Rattle.tp_rules.proofs.Fit.{IsCommandHere}
-use Rattle.tp_rules.proofs.FitChoices.{AreAnswers, answered, unanswered}
-use Rattle.tp_rules.proofs.FitPromises.{Descends, descends_higher}
-use Rattle.tp_rules.proofs.FitStamps.{with_fit}
-use Rattle.tp_rules.proofs.Selections.{IfAny, each_replicate}
+use Rattle.tp_rules.proofs.lists.Distinct.{Distinct}
+use Rattle.tp_rules.proofs.fit.Messages.{IsCommandHere}
+use Rattle.tp_rules.proofs.fit.Choices.{AreAnswers, answered, unanswered}
+use Rattle.tp_rules.proofs.fit.Promises.{Descends, descends_higher}
+use Rattle.tp_rules.proofs.fit.Stamps.{with_fit}
+use Rattle.tp_rules.proofs.lists.Selections.{IfAny, each_replicate}
 use Rattle.tp_rules.specs.Process.{ProcessState, bumped, proposing, start, with_sheet}
 use Rattle.tp_rules.specs.Sheet.{Proposed, Sheet, acknowledged, blank, command_or, is_untouched, with_command, putting, stamp_decided, stamp_proposed, stamp_told, trying, with_accepted, with_answer, with_ballot, with_proposal, with_stamp, with_vote}
 use Rattle.tp_script.specs.declared.script.Script.{Script}

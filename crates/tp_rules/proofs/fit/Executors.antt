@@ -19,8 +19,8 @@ use Rattle.tp_ops.specs.Store.{Contents, after, after_all, answer_of, answers_of
 use Rattle.tp_ops.specs.declared.command.Command.{Command}
 use Rattle.tp_ops.specs.declared.operation.Op.{Op}
 use Rattle.tp_ops.specs.declared.operation.Op.TheVariants.{Get, Put, Del, Cas}
-use Rattle.tp_rules.proofs.Fit.{IsBodyOf, IsCommandHere, IsExecutorOf, IsFit, IsFitAct, command_in_range, each_executor, each_other_accessed, is_between-from, site_in_range, site_is}
-use Rattle.tp_rules.proofs.Selections.{IfAny, each_filter, each_image, each_spread, filter_shorter, filter_some}
+use Rattle.tp_rules.proofs.fit.Messages.{IsBodyOf, IsCommandHere, IsExecutorOf, IsFit, IsFitAct, command_in_range, each_executor, each_other_accessed, is_between-from, site_in_range, site_is}
+use Rattle.tp_rules.proofs.lists.Selections.{IfAny, each_filter, each_image, each_spread, filter_shorter, filter_some}
 use Rattle.tp_rules.specs.Acts.{Act, Took, Did}
 use Rattle.tp_rules.specs.Addresses.{executors_of, is_between, is_body_at, is_name_of, is_site_of, message, others_accessed, partition_of, rank_of}
 use Rattle.tp_rules.specs.Executor.{Committed, ExecutorState, Step, committed_ids, declarations, declare_least, execute_least, executed, least, lesser, on_body, on_committed, on_promises, on_stable, react, state_after, waiting}

@@ -24,9 +24,9 @@ use Rattle.tp_rules.specs.declared.event.Event.TheVariants.{Deliver, Dropped, In
 use Rattle.tp_rules.specs.declared.event.Parcel.{Parcel}
 use Rattle.tp_script.specs.declared.script.Script.{Script}
 use Rattle.tp_wire.specs.declared.message.Message.{Message}
-use Rattle.tp_rules.proofs.CarriedCommands.{Carries, Takes, KeepsOnly, CommitsOnly, process_keeps_only, process_sends_only, executor_commits_only, executor_sends_only, session_sends_only}
-use Rattle.tp_rules.proofs.Parcels.{parcel, output_sent}
-use Rattle.tp_rules.proofs.Tallies.{filter_in}
+use Rattle.tp_rules.proofs.sent.CarriedCommands.{Carries, Takes, KeepsOnly, CommitsOnly, process_keeps_only, process_sends_only, executor_commits_only, executor_sends_only, session_sends_only}
+use Rattle.tp_rules.proofs.sent.Parcels.{parcel, output_sent}
+use Rattle.tp_rules.proofs.lists.Tallies.{filter_in}
 
 -- a command of the script
 abbrev pub IsOf : Script → Command → Type 0

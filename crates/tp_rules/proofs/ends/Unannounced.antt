@@ -28,9 +28,9 @@ use Rattle.tp_topology.specs.Shape.{Shape, IsShape}
 use Rattle.tp_wire.specs.declared.message.Body.{Body}
 use Rattle.tp_wire.specs.declared.message.Body.TheVariants.{MSubmit, MPropose, MPayload, MProposeAck, MBump, MConsensus, MConsensusAck, MCommit, MRec, MRecAck, MPromises, MCommitted, MStable, MResult}
 use Rattle.tp_rules.proofs.ActsMore.{acts_step, acts_then}
-use Rattle.tp_rules.proofs.UpTo.{length-up_to, map_length, flat_length, in_up_to}
+use Rattle.tp_rules.proofs.lists.UpTo.{length-up_to, map_length, flat_length, in_up_to}
 use Rattle.tp_rules.proofs.OwnSteps.{announce_may}
-use Rattle.tp_rules.proofs.Tallies.{fewer, one_fewer, filter_length}
+use Rattle.tp_rules.proofs.lists.Tallies.{fewer, one_fewer, filter_length}
 
 -- sites
 

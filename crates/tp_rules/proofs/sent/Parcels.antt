@@ -12,8 +12,8 @@ use Rattle.tp_rules.specs.Journal.{numbered, output_at, sent}
 use Rattle.tp_rules.specs.Plan.{is_counted_to, ordinal_of, fate_of, fate_by}
 use Rattle.tp_rules.specs.declared.event.Entry.{Entry}
 use Rattle.tp_rules.specs.declared.event.Parcel.{Parcel}
-use Rattle.tp_rules.proofs.Distinct.{Distinct}
-use Rattle.tp_rules.proofs.Tallies.{filter_none}
+use Rattle.tp_rules.proofs.lists.Distinct.{Distinct}
+use Rattle.tp_rules.proofs.lists.Tallies.{filter_none}
 use Rattle.tp_script.specs.declared.script.Script.{Script}
 use Rattle.tp_wire.specs.declared.message.Message.{Message}
 

@@ -6,13 +6,13 @@ use Rattle.std.specs.Prelude.{reverse}
 use Rattle.tp_base.proofs.Each.{each_weaker}
 use Rattle.tp_base.specs.Lists.{Each}
 use Rattle.tp_base.specs.declared.names.ActorName.TheVariants.{Process, Executor, Session}
-use Rattle.tp_rules.proofs.EachSent.{HandsOn, entry_passes, history_passes, sent_passes}
-use Rattle.tp_rules.proofs.Fit.{IsFit}
-use Rattle.tp_rules.proofs.FitExecutors.{executor_fit, executor_sound}
-use Rattle.tp_rules.proofs.FitChoices.{HasFastSize, ring_has_fast_size}
-use Rattle.tp_rules.proofs.FitRules.{process_fit, process_sound}
-use Rattle.tp_rules.proofs.FitSessions.{session_fit}
-use Rattle.tp_rules.proofs.Selections.{each_turned}
+use Rattle.tp_rules.proofs.sent.EachSent.{HandsOn, entry_passes, history_passes, sent_passes}
+use Rattle.tp_rules.proofs.fit.Messages.{IsFit}
+use Rattle.tp_rules.proofs.fit.Executors.{executor_fit, executor_sound}
+use Rattle.tp_rules.proofs.fit.Choices.{HasFastSize, ring_has_fast_size}
+use Rattle.tp_rules.proofs.fit.Rules.{process_fit, process_sound}
+use Rattle.tp_rules.proofs.fit.Sessions.{session_fit}
+use Rattle.tp_rules.proofs.lists.Selections.{each_turned}
 use Rattle.tp_rules.specs.Executor as executor
 use Rattle.tp_rules.specs.Journal.{client_of, is_known, sent}
 use Rattle.tp_rules.specs.Process as process

@@ -29,9 +29,9 @@ use Rattle.tp_wire.specs.declared.message.Body.{Body}
 use Rattle.tp_wire.specs.declared.message.Body.TheVariants.{MSubmit, MPropose, MPayload, MProposeAck, MBump, MConsensus, MConsensusAck, MCommit, MRec, MRecAck, MPromises, MCommitted, MStable, MResult}
 use Rattle.tp_rules.proofs.ActsMore.{acts_step, acts_then}
 use Rattle.tp_rules.proofs.OwnSteps.{declare_may, execute_may}
-use Rattle.tp_rules.proofs.Provenance.{IsOf, committed_provenance}
-use Rattle.tp_rules.proofs.Tallies.{fewer, one_fewer, filter_in, lower_total, less_total}
-use Rattle.tp_rules.proofs.Unannounced.{site_listed}
+use Rattle.tp_rules.proofs.sent.Provenance.{IsOf, committed_provenance}
+use Rattle.tp_rules.proofs.lists.Tallies.{fewer, one_fewer, filter_in, lower_total, less_total}
+use Rattle.tp_rules.proofs.ends.Unannounced.{site_listed}
 
 -- each command of one list is in the other
 abbrev pub Grows : List CommandId → List CommandId → Type 0

@@ -22,12 +22,12 @@ use Rattle.tp_ops.specs.declared.command.Command.{Command}
 use Rattle.tp_quorum.specs.Choice.{fast_choice, present}
 use Rattle.tp_quorum.specs.declared.choice.FastChoice.{FastChoice}
 use Rattle.tp_quorum.specs.declared.choice.FastChoice.TheVariants.{Fast, Slow}
-use Rattle.tp_rules.proofs.Fit.{IsBodyOf, IsCommandHere, IsFit, IsFitAct, IsProcessOf, known_process}
-use Rattle.tp_rules.proofs.FitChoices.{HasFastSize, next_ballot_number, recovery_number}
-use Rattle.tp_rules.proofs.FitProcesses.{IsProcessSound, IsSheetSound, acknowledged_sound, bumped_sound, command_or_here, decided_number, ids_of, kept_sound, proposing_sound, putting_sound, stamp_told_number, start_sound, touched_before, trying_sound, with_accepted_sound, with_answer_sound, with_ballot_sound, with_proposal_sound, with_sheet_sound, with_stamp_sound, with_vote_sound}
-use Rattle.tp_rules.proofs.FitSends.{announced_fit, asked_fit, bumps_fit, commit_messages_fit, is_command, own_ballot, own_partition, own_site, proposals_fit, quorum_rule_of, commit_reply_fit, votes_fit}
-use Rattle.tp_rules.proofs.FitStamps.{IsChoiceInRange, choice_number, final_number, kept_fit, present_fit}
-use Rattle.tp_rules.proofs.Selections.{IfAny, each_get}
+use Rattle.tp_rules.proofs.fit.Messages.{IsBodyOf, IsCommandHere, IsFit, IsFitAct, IsProcessOf, known_process}
+use Rattle.tp_rules.proofs.fit.Choices.{HasFastSize, next_ballot_number, recovery_number}
+use Rattle.tp_rules.proofs.fit.Processes.{IsProcessSound, IsSheetSound, acknowledged_sound, bumped_sound, command_or_here, decided_number, ids_of, kept_sound, proposing_sound, putting_sound, stamp_told_number, start_sound, touched_before, trying_sound, with_accepted_sound, with_answer_sound, with_ballot_sound, with_proposal_sound, with_sheet_sound, with_stamp_sound, with_vote_sound}
+use Rattle.tp_rules.proofs.fit.Sends.{announced_fit, asked_fit, bumps_fit, commit_messages_fit, is_command, own_ballot, own_partition, own_site, proposals_fit, quorum_rule_of, commit_reply_fit, votes_fit}
+use Rattle.tp_rules.proofs.fit.Stamps.{IsChoiceInRange, choice_number, final_number, kept_fit, present_fit}
+use Rattle.tp_rules.proofs.lists.Selections.{IfAny, each_get}
 use Rattle.tp_rules.specs.Acts.{Act, Took, Did}
 use Rattle.tp_rules.specs.Addresses.{is_between, is_body_at, is_name_of, is_site_of, rank_of}
 use Rattle.tp_rules.specs.Process.{Step, ProcessState, accept_and_vote, answer_with_old_proposal, announced, answer, bumps, follow_choice, commit_messages, decided, finished, conclude_fast_path, has_next, answer_recovery, learned, next_stamp, on_announce, on_body, on_commit, on_consensus, on_consensus_ack, on_payload, on_propose, on_propose_ack, on_rec, on_rec_ack, on_rec_by_stamp, on_recover, on_submit, proposals, propose_and_acknowledge, propose_and_answer, put_recovered, react, recovered, recovering, state_after, submitted, voted, with_room, with_sheet}

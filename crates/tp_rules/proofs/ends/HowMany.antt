@@ -37,9 +37,9 @@ use Rattle.tp_topology.specs.Shape.{Shape, IsShape}
 use Rattle.tp_wire.specs.declared.message.Body.{Body}
 use Rattle.tp_wire.specs.declared.message.Body.TheVariants.{MSubmit, MPropose, MPayload, MProposeAck, MBump, MConsensus, MConsensusAck, MCommit, MRec, MRecAck, MPromises, MCommitted, MStable, MResult}
 use Rattle.tp_wire.specs.declared.message.Message.{Message}
-use Rattle.tp_rules.proofs.UpTo.{length-up_to, map_length, flat_length}
-use Rattle.tp_rules.proofs.Tallies.{filter_length}
-use Rattle.tp_rules.proofs.LaterKinds.{executor_silent, session_silent}
+use Rattle.tp_rules.proofs.lists.UpTo.{length-up_to, map_length, flat_length}
+use Rattle.tp_rules.proofs.lists.Tallies.{filter_length}
+use Rattle.tp_rules.proofs.ends.LaterKinds.{executor_silent, session_silent}
 
 to_each_length : (from : ActorName) (names : List ActorName) (body : Body) → length (to_each from names body) ≡ length names
 to_each_length from names body = map_length (λ to. message from to body) names

@@ -25,17 +25,17 @@ use Rattle.tp_script.specs.declared.script.Script.{Script}
 use Rattle.tp_wire.specs.declared.message.Body.{Body}
 use Rattle.tp_wire.specs.declared.message.Body.TheVariants.{MSubmit, MPropose, MPayload, MProposeAck, MBump, MConsensus, MConsensusAck, MCommit, MRec, MRecAck, MPromises, MCommitted, MStable, MResult}
 use Rattle.tp_wire.specs.declared.message.Message.{Message}
-use Rattle.tp_rules.proofs.DeliveriesLeft.{delivery_falls, loss_falls}
+use Rattle.tp_rules.proofs.ends.DeliveriesLeft.{delivery_falls, loss_falls}
 use Rattle.tp_rules.proofs.Histories.{free_history}
-use Rattle.tp_rules.proofs.HowMany.{outputs_few}
-use Rattle.tp_rules.proofs.LaterKinds.{IsAfter, sends_later, announcement_is_later, declarations_are_later, results_are_later}
-use Rattle.tp_rules.proofs.Parcels.{parcel, output_sent}
-use Rattle.tp_rules.proofs.Unannounced.{AddsNone, unannounced_stays, unannounced_rises, unannounced_falls}
-use Rattle.tp_rules.proofs.Undelivered.{undelivered_stays, undelivered_rises, undelivered_falls}
-use Rattle.tp_rules.proofs.Unentered.{unentered_stays, unentered_falls}
-use Rattle.tp_rules.proofs.Unexecuted.{undeclared_stays, undeclared_falls, unexecuted_stays, unexecuted_falls}
-use Rattle.tp_rules.proofs.Unsubmitted.{unsubmitted_stays, unsubmitted_falls}
-use Rattle.tp_rules.proofs.Weights.{Lower, RisesLittle, weight_falls}
+use Rattle.tp_rules.proofs.ends.HowMany.{outputs_few}
+use Rattle.tp_rules.proofs.ends.LaterKinds.{IsAfter, sends_later, announcement_is_later, declarations_are_later, results_are_later}
+use Rattle.tp_rules.proofs.sent.Parcels.{parcel, output_sent}
+use Rattle.tp_rules.proofs.ends.Unannounced.{AddsNone, unannounced_stays, unannounced_rises, unannounced_falls}
+use Rattle.tp_rules.proofs.ends.Undelivered.{undelivered_stays, undelivered_rises, undelivered_falls}
+use Rattle.tp_rules.proofs.ends.Unentered.{unentered_stays, unentered_falls}
+use Rattle.tp_rules.proofs.ends.Unexecuted.{undeclared_stays, undeclared_falls, unexecuted_stays, unexecuted_falls}
+use Rattle.tp_rules.proofs.ends.Unsubmitted.{unsubmitted_stays, unsubmitted_falls}
+use Rattle.tp_rules.proofs.lists.Weights.{Lower, RisesLittle, weight_falls}
 
 -- the counts from each place on
 

@@ -10,7 +10,7 @@ use Rattle.tp_rules.specs.Runs.{IsRun}
 use Rattle.std.specs.Prelude.{reverse}
 use Rattle.std.proofs.lemmas.List.{length-reverse}
 use Rattle.tp_base.proofs.Ends.{reverse_push}
-use Rattle.tp_rules.proofs.LeftFalls.{left_falls}
+use Rattle.tp_rules.proofs.ends.LeftFalls.{left_falls}
 
 history_ends : (script : Script) → IsAccepted script → (older : List Entry) → IsHistory script older →
     left script older + length older ≤ left script []

@@ -16,11 +16,11 @@ use Rattle.tp_base.specs.declared.names.Pair.{Pair}
 use Rattle.tp_base.specs.declared.names.Site.{Site}
 use Rattle.tp_ops.specs.Limits.{IsCommand}
 use Rattle.tp_ops.specs.declared.command.Command.{Command}
-use Rattle.tp_rules.proofs.Distinct.{distinct_within}
-use Rattle.tp_rules.proofs.Fit.{IsCommandHere, IsExecutorOf, IsFit, IsProcessOf, site_known, command_in_range, each_accessed, each_executor, each_other_accessed, each_process, site_in_range, site_is}
-use Rattle.tp_rules.proofs.FitProcesses.{IsProcessSound, ids_of}
-use Rattle.tp_rules.proofs.FitPromises.{untold_attached}
-use Rattle.tp_rules.proofs.Selections.{IfAny, each_filter, each_image, each_spread, each_up_to, filter_shorter}
+use Rattle.tp_rules.proofs.lists.Distinct.{distinct_within}
+use Rattle.tp_rules.proofs.fit.Messages.{IsCommandHere, IsExecutorOf, IsFit, IsProcessOf, site_known, command_in_range, each_accessed, each_executor, each_other_accessed, each_process, site_in_range, site_is}
+use Rattle.tp_rules.proofs.fit.Processes.{IsProcessSound, ids_of}
+use Rattle.tp_rules.proofs.fit.Promises.{untold_attached}
+use Rattle.tp_rules.proofs.lists.Selections.{IfAny, each_filter, each_image, each_spread, each_up_to, filter_shorter}
 use Rattle.tp_rules.specs.Addresses.{accessed, executors_of, is_site_of, message, others_accessed, processes_of, site}
 use Rattle.tp_rules.specs.Process.{ProcessState, announced, asked, bumps, commit_messages, proposals, put_to_vote, commit_reply, untold}
 use Rattle.tp_rules.specs.Sheet.{QuorumRule}

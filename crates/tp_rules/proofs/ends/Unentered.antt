@@ -20,8 +20,8 @@ use Rattle.tp_rules.specs.declared.event.Inner.TheVariants.{Submit, Recover, Ann
 use Rattle.tp_script.specs.declared.script.PlanLine.{PlanLine}
 use Rattle.tp_script.specs.declared.script.PlanLine.TheVariants.{Crash as CrashLine, Recover as RecoverLine, Lose, Repeat, RepeatAll}
 use Rattle.tp_script.specs.declared.script.Script.{Script}
-use Rattle.tp_rules.proofs.SitesCounted.{often, often_none, often_more, one_if, fewer_sites}
-use Rattle.tp_rules.proofs.Tallies.{count_yes, count_no, filter_yes, filter_no}
+use Rattle.tp_rules.proofs.ends.SitesCounted.{often, often_none, often_more, one_if, fewer_sites}
+use Rattle.tp_rules.proofs.lists.Tallies.{count_yes, count_no, filter_yes, filter_no}
 use Rattle.std.proofs.lemmas.Option.{slice_get_within}
 use Rattle.std.specs.List.{cons_option}
 

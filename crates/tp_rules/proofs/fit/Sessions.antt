@@ -12,8 +12,8 @@ use Rattle.tp_base.specs.declared.names.Rank.{Rank}
 use Rattle.tp_base.specs.declared.names.SessionId.{SessionId}
 use Rattle.tp_ops.specs.declared.command.Command.{Command}
 use Rattle.tp_ops.specs.declared.operation.Answer.{Answer}
-use Rattle.tp_rules.proofs.Fit.{IsFit, between_is, command_in_range, each_accessed, site_in_range, site_known}
-use Rattle.tp_rules.proofs.Selections.{IfAny, each_filter, each_get, each_image}
+use Rattle.tp_rules.proofs.fit.Messages.{IsFit, between_is, command_in_range, each_accessed, site_in_range, site_known}
+use Rattle.tp_rules.proofs.lists.Selections.{IfAny, each_filter, each_get, each_image}
 use Rattle.tp_rules.specs.Acts.{Act, Took, Did, Client}
 use Rattle.tp_rules.specs.Addresses.{accessed, is_between, message, site}
 use Rattle.tp_rules.specs.Journal.{client_of, commands_of, home_of}

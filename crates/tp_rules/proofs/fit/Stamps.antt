@@ -13,7 +13,7 @@ use Rattle.tp_ops.specs.declared.command.Command.{Command}
 use Rattle.tp_quorum.specs.Choice.{fast_choice, greatest, is_fast, present}
 use Rattle.tp_quorum.specs.declared.choice.FastChoice.{FastChoice}
 use Rattle.tp_quorum.specs.declared.choice.FastChoice.TheVariants.{Fast, Slow}
-use Rattle.tp_rules.proofs.Selections.{IfAny, each_image, each_of_all, filter_some}
+use Rattle.tp_rules.proofs.lists.Selections.{IfAny, each_image, each_of_all, filter_some}
 use Rattle.tp_rules.specs.Addresses.{accessed}
 use Rattle.tp_rules.specs.Sheet.{Sheet, greatest_known, stamp_of, stamps_of}
 use Rattle.tp_topology.specs.Counting.{up_to}

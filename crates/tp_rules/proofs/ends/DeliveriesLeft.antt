@@ -7,8 +7,8 @@ use Rattle.std.proofs.lemmas.Bool.{cases_Bool, eq-eqb, and_from, or_left, or_rig
 use Rattle.tp_base.specs.Lists.{IsIn, Each}
 use Rattle.tp_base.specs.Names.{same_name}
 use Rattle.tp_base.specs.declared.names.ActorName.{ActorName}
-use Rattle.tp_rules.proofs.Parcels.{fate_stays}
-use Rattle.tp_rules.proofs.Tallies.{count_yes, count_no}
+use Rattle.tp_rules.proofs.sent.Parcels.{fate_stays}
+use Rattle.tp_rules.proofs.lists.Tallies.{count_yes, count_no}
 use Rattle.tp_rules.specs.Journal.{sent, is_delivery_of, is_loss_of}
 use Rattle.tp_rules.specs.Plan.{Fate, Lost, Times, fate_of, ordinal_of, deliveries, was_lost, left_by, deliveries_left, repeated_by, times_for_all, first_or, is_lost_by}
 use Rattle.tp_rules.specs.Runs.{IsLost}

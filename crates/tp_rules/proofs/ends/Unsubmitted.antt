@@ -33,9 +33,9 @@ use Rattle.tp_wire.specs.declared.message.Body.{Body}
 use Rattle.tp_wire.specs.declared.message.Body.TheVariants.{MSubmit, MPropose, MPayload, MProposeAck, MBump, MConsensus, MConsensusAck, MCommit, MRec, MRecAck, MPromises, MCommitted, MStable, MResult}
 use Rattle.tp_wire.specs.declared.message.Message.{Message}
 use Rattle.tp_rules.proofs.ActsMore.{acts_step, acts_then, delivered_act}
-use Rattle.tp_rules.proofs.UpTo.{get_there, get_map, get_up_to}
+use Rattle.tp_rules.proofs.lists.UpTo.{get_there, get_map, get_up_to}
 use Rattle.tp_rules.proofs.OwnSteps.{session_may, submit_may}
-use Rattle.tp_rules.proofs.Tallies.{fewer, one_fewer, filter_in}
+use Rattle.tp_rules.proofs.lists.Tallies.{fewer, one_fewer, filter_in}
 
 pub unsubmitted_stays : (script : Script) (older : List Entry) (e : Entry) → unsubmitted script (e ∷ older) ≤ unsubmitted script older
 unsubmitted_stays script older e =

@@ -5,9 +5,9 @@ use Rattle.std.proofs.lemmas.Bool.{eq-eqb, ne_eqb}
 use Rattle.std.proofs.lemmas.List.Elements.{filter-append}
 use Rattle.tp_base.specs.Lists.{IsIn, Each}
 use Rattle.tp_base.proofs.Each.{each_in}
-use Rattle.tp_rules.proofs.DeliveriesLeft.{deliveries_fall, deliveries_few}
-use Rattle.tp_rules.proofs.Parcels.{numbered_parts, length-numbered}
-use Rattle.tp_rules.proofs.Tallies.{filter_in, in_filter, filter_none, filter_length, total-append, lower_total, less_total, total_bound}
+use Rattle.tp_rules.proofs.ends.DeliveriesLeft.{deliveries_fall, deliveries_few}
+use Rattle.tp_rules.proofs.sent.Parcels.{numbered_parts, length-numbered}
+use Rattle.tp_rules.proofs.lists.Tallies.{filter_in, in_filter, filter_none, filter_length, total-append, lower_total, less_total, total_bound}
 use Rattle.tp_rules.specs.Journal.{numbered, sent}
 use Rattle.tp_rules.specs.Left.{place_of, total, undelivered}
 use Rattle.tp_rules.specs.Plan.{deliveries_left}

@@ -7,7 +7,7 @@ use Rattle.tp_base.specs.Lists.{Each}
 use Rattle.tp_base.specs.Names.{same_name}
 use Rattle.tp_base.specs.Tables.{nth}
 use Rattle.tp_base.specs.declared.names.ActorName.{ActorName}
-use Rattle.tp_rules.proofs.Selections.{IfAny}
+use Rattle.tp_rules.proofs.lists.Selections.{IfAny}
 use Rattle.tp_rules.specs.Acts.{Act, Took, Did}
 use Rattle.tp_rules.specs.Journal.{act_of, acts, identity_in, is_known, numbered, output_at, sent, with_act}
 use Rattle.tp_rules.specs.Rules.{outputs_of}

@@ -6,7 +6,7 @@ use Rattle.std.proofs.lemmas.Bool.{cases_Bool}
 use Rattle.tp_base.specs.Names.{same_site}
 use Rattle.tp_base.proofs.SameNames.{same_site_refl, same_site_is}
 use Rattle.tp_base.specs.declared.names.Site.{Site}
-use Rattle.tp_rules.proofs.Tallies.{count_yes, count_no, filter_length}
+use Rattle.tp_rules.proofs.lists.Tallies.{count_yes, count_no, filter_length}
 
 -- how often a site is in a list
 unfoldable pub often : Site → List Site → ℕ

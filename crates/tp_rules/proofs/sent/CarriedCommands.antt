@@ -31,9 +31,9 @@ use Rattle.tp_topology.specs.Shape.{Shape}
 use Rattle.tp_wire.specs.declared.message.Body.{Body}
 use Rattle.tp_wire.specs.declared.message.Body.TheVariants.{MSubmit, MPropose, MPayload, MProposeAck, MBump, MConsensus, MConsensusAck, MCommit, MRec, MRecAck, MPromises, MCommitted, MStable, MResult}
 use Rattle.tp_wire.specs.declared.message.Message.{Message}
-use Rattle.tp_rules.proofs.LaterKinds.{executor_silent, session_silent}
-use Rattle.tp_rules.proofs.UpTo.{nth_in}
-use Rattle.tp_rules.proofs.SendsOfProcess.{EachSent, each_to, on_submit_sends, on_propose_sends, on_payload_sends, on_propose_ack_sends, on_consensus_sends, on_consensus_ack_sends, on_rec_sends, on_rec_ack_sends, on_recover_sends, on_commit_sends, on_announce_sends, with_room_sends}
+use Rattle.tp_rules.proofs.ends.LaterKinds.{executor_silent, session_silent}
+use Rattle.tp_rules.proofs.lists.UpTo.{nth_in}
+use Rattle.tp_rules.proofs.sent.SendsOfProcess.{EachSent, each_to, on_submit_sends, on_propose_sends, on_payload_sends, on_propose_ack_sends, on_consensus_sends, on_consensus_ack_sends, on_rec_sends, on_rec_ack_sends, on_recover_sends, on_commit_sends, on_announce_sends, with_room_sends}
 
 -- the command that a body carries passes
 abbrev pub Carries : (Command → Type 0) → Body → Type 0

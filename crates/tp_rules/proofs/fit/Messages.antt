@@ -12,8 +12,8 @@ use Rattle.tp_base.specs.declared.names.Site.{Site}
 use Rattle.tp_ops.specs.Limits.{IsCommand}
 use Rattle.tp_ops.specs.Parts.{is_accessed}
 use Rattle.tp_ops.specs.declared.command.Command.{Command}
-use Rattle.tp_rules.proofs.EachSent.{TookOnly}
-use Rattle.tp_rules.proofs.Selections.{each_filter, each_image, each_up_to}
+use Rattle.tp_rules.proofs.sent.EachSent.{TookOnly}
+use Rattle.tp_rules.proofs.lists.Selections.{each_filter, each_image, each_up_to}
 use Rattle.tp_rules.specs.Acts.{Act}
 use Rattle.tp_rules.specs.Addresses.{accessed, executors_of, is_between, is_name_of, is_site_of, others_accessed, processes_of, site}
 use Rattle.tp_rules.specs.Journal.{is_known}
