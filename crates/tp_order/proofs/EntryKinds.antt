@@ -57,7 +57,7 @@ rule_is_quiet me from (MStable id) state =
     (λ foreign. record { executed = refl; declared = refl }) (λ own. quiet_state state)
 rule_is_quiet me from _ state = quiet_state state
 
-message_is_quiet : (shape : Shape) (me : Site) (m : Message) (state : executor.ExecutorState) →
+pub message_is_quiet : (shape : Shape) (me : Site) (m : Message) (state : executor.ExecutorState) →
     IsQuietMove state (executor.react shape me (Took m) state)
 message_is_quiet shape me m state =
     cond_both (same_name m.to (Executor me) && is_name_of shape m.from && is_body_at shape me.partition.0 m.body)

@@ -8,8 +8,10 @@ pub mod Announced
 pub mod AtRest
 pub mod ClockRises
 pub mod Counts
+pub mod Declared
 pub mod Destinations
 pub mod EachSheet
+pub mod ExecutorsHear
 pub mod Gains
 pub mod LowProcesses
 pub mod LowSaid
