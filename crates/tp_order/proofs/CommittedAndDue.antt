@@ -59,7 +59,7 @@ module _ (script : Script) (accepted : IsAccepted script) (whole : List Entry) (
   abbrev owner : ℕ → ℕ → Option CommandId
   owner = final_owner script whole s.partition.0
 
-  knows : KnowsByMessages (IsSent whole) script.topology s state
+  pub knows : KnowsByMessages (IsSent whole) script.topology s state
   knows = knows_by_messages (IsSent whole) script.topology s (acts older (Executor s))
       (acts_were_sent (IsSent whole) older (Executor s) within)
 
@@ -93,7 +93,7 @@ module _ (script : Script) (accepted : IsAccepted script) (whole : List Entry) (
       }
 
   -- what it was told of promises is so in the end
-  tellings_are_true : (t : Telling) → PromisesMessage (IsSent whole) script.topology s t → IsTrueTelling owner t
+  pub tellings_are_true : (t : Telling) → PromisesMessage (IsSent whole) script.topology s t → IsTrueTelling owner t
   tellings_are_true t told n above below =
       let m = told.message in
       let is =

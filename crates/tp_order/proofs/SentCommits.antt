@@ -70,3 +70,18 @@ sent_is_commit script (e ∷ older) m c t history (inr before) body =
       id = old.id;
       stamp = old.stamp;
     }
+
+-- and that of the process that told it
+pub sent_commit_of : (script : Script) (older : List Entry) (m : Message) (s : Site) (c : Command) (t : Stamp) →
+    IsFreeHistory script older → IsSent older m → m.from ≡ Process s → m.body ≡ MCommitted c t →
+    IsIn (record { site = s; id = c.id; stamp = t.0 }) (commits older)
+sent_commit_of script [] m s c t history sent from body = absurd sent
+sent_commit_of script (e ∷ older) m s c t history (inl here) from body =
+    let by : e.actor ≡ Process s = sym (output_sender script older e m history.1 here).0 ∙ from in
+    let commit : Commit = record { site = s; id = c.id; stamp = t.0 } in
+    in_right (commits older) _ commit
+    (in_filter_map (λ (x : Message). commit_by e.actor x.body) e.outputs m commit here
+    (ap (λ (a : ActorName). commit_by a m.body) by ∙ ap (commit_by (Process s)) body))
+sent_commit_of script (e ∷ older) m s c t history (inr before) from body =
+    in_left (commits older) _ (record { site = s; id = c.id; stamp = t.0 })
+    (sent_commit_of script older m s c t history.0 before from body)

@@ -41,7 +41,7 @@ pub record AreIdle (shape : Shape) (sites : List Site) (state : Site → Executo
       has same_id c.key.id (state y).declared ≡ true → is_heard (state x) c.key.id y.partition.0 ≡ true
   pub places : (c : Command) (q : ℕ) → IsIn q (accessed shape c) → IsIn (site q 1) sites
 
-all_from : (p : ℕ → Bool) (xs : List ℕ) → ((x : ℕ) → IsIn x xs → p x ≡ true) → list_all p xs ≡ true
+pub all_from : (p : ℕ → Bool) (xs : List ℕ) → ((x : ℕ) → IsIn x xs → p x ≡ true) → list_all p xs ≡ true
 all_from p [] h = refl
 all_from p (x ∷ xs) h = and_from (p x) (list_all p xs) (h x (inl refl)) (all_from p xs (λ y there. h y (inr there)))
 

@@ -33,7 +33,7 @@ pub record KnowsMore (old new : ExecutorState) : Type 0 where
   pub committed : (c : Committed) → IsIn c old.committed → IsIn c new.committed
   pub heard : (h : Heard) → IsIn h old.heard → IsIn h new.heard
 
-knows_itself : (state : ExecutorState) → KnowsMore state state
+pub knows_itself : (state : ExecutorState) → KnowsMore state state
 knows_itself state = record { told = λ t there. there; committed = λ c there. there; heard = λ h there. there }
 
 module _ (shape : Shape) (me : Site) where

@@ -101,7 +101,7 @@ module _ (script : Script) (accepted : IsAccepted script) where
 
   -- they are few
 
-  sound : (older : List Entry) → IsFreeHistory script older → (k : Site) → is_site_of script.topology k ≡ true
+  pub sound : (older : List Entry) → IsFreeHistory script older → (k : Site) → is_site_of script.topology k ≡ true
       → IsProcessSound script k.partition.0 (process_at older k)
   sound older history k at =
       let passes = history_passes script (IsFit script) (fit_handed_on script accepted) older history in
@@ -146,7 +146,7 @@ module _ (script : Script) (accepted : IsAccepted script) where
       )
 
   -- each site that is listed is one of the script's
-  listed_is : (k : Site) → IsIn k (sites_of script) → is_site_of script.topology k ≡ true
+  pub listed_is : (k : Site) → IsIn k (sites_of script) → is_site_of script.topology k ≡ true
   listed_is k there =
       let shape = script.topology in
       let all = each_spread (λ (x : Site). is_site_of shape x ≡ true) (ranks_of script) (up_to shape.partitions)
