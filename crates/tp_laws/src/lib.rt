@@ -4,7 +4,9 @@
 
 ghost use Rattle.std.specs.Prelude.{◌≡◌, false, reverse};
 ghost use Rattle.tp_base.specs.Lists.{Each};
+ghost use Rattle.tp_quiet.specs.Finished.{IsFinished, IsHarmless};
 ghost use Rattle.tp_rules.specs.Laws.{CommitsAgree, KeepsLaws, LineKeepsRealTime, LineOrders, RepliesAreSequential, ResultsAreSequential};
+ghost use Rattle.tp_rules.specs.Pending.{IsQuiet};
 ghost use Rattle.tp_rules.specs.Plan.{is_planned};
 ghost use Rattle.tp_rules.specs.Runs.{AreInRange, IsFreeRun, IsRun};
 ghost use Rattle.tp_script.specs.Accepted.{IsAccepted};
@@ -76,4 +78,14 @@ pub fn law_plain(script: &Script, entries: &Entries)
     requires free_run { IsFreeRun script.now entries.now }
     requires plain { Each (λ entry. is_planned entry.event ≡ false) entries.now }
     ensures { KeepsLaws script.now entries.now }
+{}
+
+/// Quiet means finished: where the plan loses no message and crashes no site, a run that ends with nothing
+/// pending has committed and executed each command at each replica of its partitions, and answered it.
+pub fn law_quiet(script: &Script, entries: &Entries)
+    requires accepted { IsAccepted script.now }
+    requires run { IsRun script.now entries.now }
+    requires quiet { IsQuiet script.now entries.now }
+    requires harmless { IsHarmless script.now }
+    ensures { IsFinished script.now entries.now }
 {}
