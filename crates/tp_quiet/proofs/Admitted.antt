@@ -1,7 +1,7 @@
 -- In each run a process admits each message that it takes: its names are of the shape, its command accesses the partition, and
 -- the clock has room.
 -- Used for what processes take in a run in which nothing is pending.
-use Rattle.std.proofs.Common.{◌≡◌, ℕ, Bool, inl, inr, true, false, List, [], ◌∷◌, ◌++◌, map, Option, Some, None, refl, sym, ap, subst, ◌∙◌}
+use Rattle.std.proofs.Common.{◌≡◌, ℕ, Bool, inl, inr, true, List, [], ◌∷◌, map, Option, Some, None, refl, sym, ap, subst, ◌∙◌}
 use Rattle.std.specs.Prelude.{◌&&◌}
 use Rattle.std.proofs.lemmas.Bool.{and_from, and_parts, both_ways, cases_Bool, cond_both}
 use Rattle.tp_base.proofs.Each.{each_append, each_in, each_of}
@@ -17,7 +17,7 @@ use Rattle.tp_base.specs.declared.names.PartitionId.{PartitionId}
 use Rattle.tp_base.specs.declared.names.Site.{Site}
 use Rattle.tp_base.specs.declared.names.Stamp.{Stamp}
 use Rattle.tp_agreement.proofs.Commits.{home_in_range}
-use Rattle.tp_facts.proofs.Commands.{command_in, command_in_names}
+use Rattle.tp_facts.proofs.Commands.{command_in}
 use Rattle.tp_facts.proofs.Deliveries.{sent_before, took_sent}
 use Rattle.tp_facts.proofs.Facts.{IsGenuine, KeepsCommand, sent_by}
 use Rattle.tp_facts.proofs.Invariant.{facts_hold}
@@ -50,9 +50,8 @@ use Rattle.tp_wire.specs.Ranges.{IsBody, IsClient, IsExecutor}
 use Rattle.tp_wire.specs.declared.message.Body.{Body}
 use Rattle.tp_wire.specs.declared.message.Body.TheVariants.{MSubmit, MPropose, MPayload, MConsensus, MCommit, MRec, MCommitted, MResult}
 use Rattle.tp_wire.specs.declared.message.Message.{Message}
-use Rattle.tp_quiet.proofs.Destinations.{HasAsked, IsDirected, GoesTo, IsToAccessed, all_directed}
+use Rattle.tp_quiet.proofs.Destinations.{IsDirected, GoesTo, IsToAccessed, all_directed}
 use Rattle.tp_quiet.proofs.Room.{sent_has_room}
-use Rattle.tp_quiet.proofs.Serving.{IsAdmitted}
 use Rattle.tp_quiet.proofs.TakenWell.{AreAdmitted, are_genuine, fits, is_here}
 
 -- who sends is of the shape

@@ -1,12 +1,11 @@
 -- Where each message was taken, each command that was submitted is committed at each process and each executor of its
 -- partitions.
 -- Used for each command in a run in which nothing is pending.
-use Rattle.std.proofs.Common.{◌≡◌, ℕ, ◌≤◌, true, List, [], Some, refl, sym, ap, subst, ◌∙◌}
+use Rattle.std.proofs.Common.{◌≡◌, ℕ, ◌≤◌, true, List, refl, sym, subst}
 use Rattle.std.specs.Prelude.{◌&&◌}
 use Rattle.std.proofs.lemmas.Bool.{and_from}
 use Rattle.tp_base.proofs.Members.{in_has, map_in}
 use Rattle.tp_base.proofs.SameNames.{same_id_refl, same_name_refl}
-use Rattle.tp_base.specs.Limits.{IsFrom}
 use Rattle.tp_base.specs.Lists.{IsIn, has}
 use Rattle.tp_base.specs.Names.{same_id, same_name}
 use Rattle.tp_base.specs.declared.names.ActorName.TheVariants.{Executor, Process}
@@ -15,16 +14,14 @@ use Rattle.tp_base.specs.declared.names.Site.{Site}
 use Rattle.tp_agreement.proofs.Commits.{home_in_range}
 use Rattle.tp_agreement.proofs.KnownStamps.{acts_are_sent}
 use Rattle.tp_facts.proofs.Commands.{accessed_from, command_in, command_in_names}
-use Rattle.tp_facts.specs.Settled.{sheet_at}
 use Rattle.tp_ops.specs.Parts.{is_accessed}
 use Rattle.tp_ops.specs.declared.command.Command.{Command}
 use Rattle.tp_replies.proofs.Submissions.{IsSubmitted}
-use Rattle.tp_rules.proofs.Fit.{site_is, site_known}
+use Rattle.tp_rules.proofs.Fit.{site_known}
 use Rattle.tp_rules.proofs.SendsOfProcess.{stamp}
 use Rattle.tp_rules.proofs.Tallies.{filter_in, in_filter}
 use Rattle.tp_rules.proofs.Unexecuted.{executor_of}
 use Rattle.tp_rules.proofs.UpTo.{in_up_to}
-use Rattle.tp_rules.specs.Acts.{Took}
 use Rattle.tp_rules.specs.Addresses.{accessed, is_body_at, is_name_of, is_site_of, message, site}
 use Rattle.tp_rules.specs.Executor.{Committed, committed_ids}
 use Rattle.tp_rules.specs.Journal.{IsSent, acts}
@@ -34,14 +31,14 @@ use Rattle.tp_script.specs.declared.script.Script.{Script}
 use Rattle.tp_topology.specs.Counting.{up_to}
 use Rattle.tp_wire.specs.declared.message.Body.TheVariants.{MCommitted}
 use Rattle.tp_wire.specs.declared.message.Message.{Message}
-use Rattle.tp_quiet.proofs.Admitted.{Accesses, command_at}
+use Rattle.tp_quiet.proofs.Admitted.{command_at}
 use Rattle.tp_quiet.proofs.AllKnown.{all_know}
 use Rattle.tp_quiet.proofs.ExecutorsHear.{IsCommittedAs, IsNamed, all_heeded}
 use Rattle.tp_quiet.proofs.Room.{process_at}
 use Rattle.tp_quiet.proofs.Served.{Knows}
 use Rattle.tp_quiet.proofs.Stuck.{IsTakenIn, someone_knows}
 use Rattle.tp_quiet.proofs.Submitted.{submission, submission_sent}
-use Rattle.tp_quiet.proofs.TellsExecutor.{IsFinalTold, all_tell_final}
+use Rattle.tp_quiet.proofs.TellsExecutor.{all_tell_final}
 
 module _ (script : Script) (older : List Entry) (run : IsTakenIn script older) where
   abbrev of : CommandId → Command

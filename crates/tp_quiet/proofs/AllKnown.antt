@@ -1,8 +1,8 @@
 -- Where each message was taken, what one process knows of its partition's stamp all processes know of all partitions that the
 -- command accesses: who knew it first told all.
 -- Used for each command in a run in which nothing is pending.
-use Rattle.std.proofs.Common.{◌≡◌, ◌≢◌, ◌⊎◌, ℕ, inl, inr, Bool, true, false, List, [], ◌∷◌, Option, Some, None, is_some, refl, sym, ap, subst, ◌∙◌}
-use Rattle.std.specs.Prelude.{is_none, replicate}
+use Rattle.std.proofs.Common.{◌≡◌, ◌≢◌, ℕ, inl, inr, true, List, [], ◌∷◌, Option, Some, None, is_some, refl, sym, subst}
+use Rattle.std.specs.Prelude.{replicate}
 use Rattle.std.proofs.lemmas.Bool.{both_ways, cases_Bool, cond_both}
 use Rattle.tp_base.proofs.Each.{each_in}
 use Rattle.tp_base.proofs.Members.{in_left}
@@ -31,10 +31,10 @@ use Rattle.tp_rules.proofs.lists.UpTo.{in_up_to}
 use Rattle.tp_rules.specs.Acts.{Act, Took}
 use Rattle.tp_rules.specs.Addresses.{accessed, is_site_of, message, site}
 use Rattle.tp_rules.specs.Journal.{IsSent, act_of, acts}
-use Rattle.tp_rules.specs.Process.{ProcessState, react, state_after}
+use Rattle.tp_rules.specs.Process.{react, state_after}
 use Rattle.tp_rules.specs.Runs.{IsFreeHistory}
-use Rattle.tp_rules.specs.Sheet.{QuorumRule, Sheet, blank, ring_rule}
-use Rattle.tp_base.specs.Tables.{kept_at}
+use Rattle.tp_rules.specs.Sheet.{QuorumRule, blank, ring_rule}
+use Rattle.tp_rules.specs.Tables.{kept_at}
 use Rattle.tp_rules.specs.declared.event.Entry.{Entry}
 use Rattle.tp_script.specs.Accepted.{IsAccepted}
 use Rattle.tp_script.specs.declared.script.Script.{Script}
@@ -47,10 +47,10 @@ use Rattle.tp_quiet.proofs.Destinations.{GoesTo, IsDirected, all_directed}
 use Rattle.tp_quiet.proofs.Onward.{act_onward}
 use Rattle.tp_quiet.proofs.Questions.{AsksFairly, IsFair, all_fair}
 use Rattle.tp_quiet.proofs.Room.{process_at}
-use Rattle.tp_quiet.proofs.Served.{Knows, Onward}
+use Rattle.tp_quiet.proofs.Served.{Knows}
 use Rattle.tp_quiet.proofs.Stuck.{IsTakenIn}
 use Rattle.tp_quiet.proofs.TakenWell.{are_genuine, is_here}
-use Rattle.tp_quiet.proofs.TellsAll.{LearnsOrTells, TookCommit, IsTold, act_tells}
+use Rattle.tp_quiet.proofs.TellsAll.{act_tells}
 
 -- the command of an identifier has it
 pub named_id : (cs : List Command) (id : CommandId) → (command_in cs id).id ≡ id

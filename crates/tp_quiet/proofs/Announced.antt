@@ -1,6 +1,6 @@
 -- Each number that a process told was told to all executors of its partition, in one of its announcements.
 -- Used for what executors count in a run in which nothing is pending.
-use Rattle.std.proofs.Common.{◌≡◌, ℕ, ◌<◌, ◌≤◌, inl, inr, List, [], ◌∷◌, ◌++◌, refl, subst, arith}
+use Rattle.std.proofs.Common.{ℕ, ◌<◌, ◌≤◌, inl, inr, List, [], ◌∷◌, ◌++◌, arith}
 use Rattle.std.proofs.lemmas.Bool.{cases_lt}
 use Rattle.tp_base.proofs.Members.{in_left, in_right, map_in}
 use Rattle.tp_base.specs.Limits.{IsFrom}
@@ -15,7 +15,7 @@ use Rattle.tp_facts.proofs.StepCases.{ProcessStep, does_nothing, bumps_clock, an
 use Rattle.tp_rules.proofs.lists.UpTo.{in_up_to}
 use Rattle.tp_rules.specs.Acts.{Act}
 use Rattle.tp_rules.specs.Addresses.{executors_of, message, site}
-use Rattle.tp_rules.specs.Process.{ProcessState, Step, announced, react, state_after, untold}
+use Rattle.tp_rules.specs.Process.{ProcessState, Step, announced, state_after, untold}
 use Rattle.tp_rules.specs.Sheet.{QuorumRule}
 use Rattle.tp_topology.specs.Counting.{up_to}
 use Rattle.tp_wire.specs.declared.message.Body.TheVariants.{MPromises}

@@ -1,11 +1,11 @@
 -- A session that got the results of all partitions has answered the command, and one whose submitted commands are all answered
 -- has submitted all of them, where it has no step to make.
 -- Used for the sessions in a run in which nothing is pending.
-use Rattle.std.proofs.Common.{◌≡◌, ◌⊎◌, ℕ, zero, suc, ◌+◌, ◌<◌, ◌≤◌, Bool, inl, inr, true, false, cond, List, [], ◌∷◌, length, Option, Some, None, is_some, refl, sym, ap, subst, ◌∙◌, arith}
+use Rattle.std.proofs.Common.{◌≡◌, ℕ, zero, suc, ◌+◌, ◌≤◌, Bool, inl, inr, true, false, cond, List, [], ◌∷◌, length, Option, Some, None, is_some, refl, sym, ap, subst, ◌∙◌, arith}
 use Rattle.std.specs.Option.{option_or}
-use Rattle.std.specs.Prelude.{◌==◌, ◌&&◌, nat_lt, not, option_map, slice_get, unwrap_or}
+use Rattle.std.specs.Prelude.{◌==◌, ◌&&◌, nat_lt, not, option_map, unwrap_or}
 use Rattle.std.specs.List.{list_all, list_any}
-use Rattle.std.proofs.lemmas.Bool.{and_from, both_ways, cases_Bool, cases_eq, cond_both, cond-false, cond-true, eq-eqb, lt-ltb, ltb-false, or_left, or_right}
+use Rattle.std.proofs.lemmas.Bool.{and_from, cases_Bool, cases_eq, cond_both, cond-false, cond-true, eq-eqb, lt-ltb, ltb-false, or_left, or_right}
 use Rattle.tp_base.proofs.SameNames.{same_id_refl, same_name_refl}
 use Rattle.tp_base.specs.Limits.{IsFrom}
 use Rattle.tp_base.specs.Lists.{IsIn}
@@ -26,11 +26,11 @@ use Rattle.tp_replies.proofs.Submissions.{IsSubmitted}
 use Rattle.tp_replies.specs.SessionReply.{session_of}
 use Rattle.tp_rules.proofs.ActsMore.{acts_step}
 use Rattle.tp_rules.proofs.OwnSteps.{session_may}
-use Rattle.tp_rules.proofs.Unsubmitted.{command_numbered, submitted_by}
+use Rattle.tp_rules.proofs.Unsubmitted.{submitted_by}
 use Rattle.tp_rules.specs.Acts.{Act, Client, Took, Did}
 use Rattle.tp_rules.specs.Addresses.{accessed, is_body_at, is_name_of}
 use Rattle.tp_rules.specs.Journal.{act_of, acts, client_of, commands_of, identity_in, output_at, with_act}
-use Rattle.tp_rules.specs.Outcome.{command_of, first_result, is_submission_of, is_submit, reply_from, reply_to, result_at, result_by, result_in}
+use Rattle.tp_rules.specs.Outcome.{first_result, is_submission_of, is_submit, reply_from, reply_to, result_at, result_by, result_in}
 use Rattle.tp_rules.specs.Rules.{MayMake}
 use Rattle.tp_rules.specs.Runs.{IsFreeHistory, MayHappen}
 use Rattle.tp_rules.specs.Session as session
@@ -39,7 +39,7 @@ use Rattle.tp_rules.specs.declared.event.Entry.{Entry}
 use Rattle.tp_rules.specs.declared.event.Event.{Event}
 use Rattle.tp_rules.specs.declared.event.Event.TheVariants.{Deliver, Dropped, Inner as OfItself}
 use Rattle.tp_rules.specs.declared.event.Inner.{Inner}
-use Rattle.tp_rules.specs.declared.event.Inner.TheVariants.{Submit, Recover, Announce, Declare, Execute, Crash}
+use Rattle.tp_rules.specs.declared.event.Inner.TheVariants.{Submit}
 use Rattle.tp_script.specs.Accepted.{IsAccepted}
 use Rattle.tp_script.specs.declared.script.Script.{Script}
 use Rattle.tp_topology.proofs.Passing.{count_none}
@@ -134,7 +134,7 @@ module _ (script : Script) (accepted : IsAccepted script) (older : List Entry) (
         let wrong : is_some (session.merged_reply shape parts (Some c)) ≡ false =
         ap (λ (o : Option (List Answer)). is_some o) none in
         cc
-    )
+        )
   ]
 
   answered : (id : CommandId) → is_some (reply_to script older id) ≡ true
@@ -169,7 +169,7 @@ module _ (script : Script) (accepted : IsAccepted script) (older : List Entry) (
             (and_from test (nat_lt (session.open_count script.topology client state) client.window) does room) in
             let wrong : None ≡ Some (Submit (state.submitted + 1)) = sym still ∙ next in
             cc
-        )
+            )
       ]
 
   -- a command's number is among its session's

@@ -1,6 +1,6 @@
 -- One act brings the clock above a number by no more than it proposes, where the stamps that are taken and kept are at most
 -- that number. Used for the room of clocks.
-use Rattle.std.proofs.Common.{◌≡◌, ℕ, suc, ◌+◌, ◌≤◌, ◌<◌, Bool, true, false, cond, List, [], ◌∷◌, length, Option, Some, None, is_some, refl, arith}
+use Rattle.std.proofs.Common.{◌≡◌, ℕ, ◌+◌, ◌≤◌, ◌<◌, true, List, [], length, Option, Some, None, is_some, refl, arith}
 use Rattle.std.specs.Prelude.{◌==◌, ◌&&◌, is_none, nat_le, nat_lt}
 use Rattle.std.proofs.lemmas.Bool.{cond_both, lt-ltb}
 use Rattle.tp_base.specs.Limits.{STAMP_LIMIT}
@@ -23,14 +23,13 @@ use Rattle.tp_rules.proofs.fit.Stamps.{present_fit, with_fit}
 use Rattle.tp_rules.proofs.lists.Selections.{IfAny}
 use Rattle.tp_rules.specs.Acts.{Act, Took, Did}
 use Rattle.tp_rules.specs.Addresses.{is_body_at, is_name_of, rank_of}
-use Rattle.tp_rules.specs.Process.{ProcessState, Step, accept_and_vote, answer_recovery, announced, answer_with_old_proposal, conclude_fast_path, decided, finished, follow_choice, has_next, learned, next_stamp, on_body, on_commit, on_consensus, on_consensus_ack, on_propose, on_propose_ack, on_rec_ack, on_rec_by_stamp, on_submit, propose_and_acknowledge, propose_and_answer, put_recovered, react, recovered, recovering, submitted, voted, with_room, with_sheet}
+use Rattle.tp_rules.specs.Process.{ProcessState, Step, accept_and_vote, answer_recovery, announced, answer_with_old_proposal, conclude_fast_path, finished, follow_choice, has_next, learned, next_stamp, on_body, on_commit, on_consensus, on_consensus_ack, on_propose, on_propose_ack, on_rec_ack, on_rec_by_stamp, on_submit, propose_and_acknowledge, propose_and_answer, put_recovered, react, recovered, recovering, submitted, voted, with_room, with_sheet}
 use Rattle.tp_rules.specs.Sheet.{QuorumRule, Sheet, acknowledged, can_accept, can_acknowledge, can_answer, can_vote, final_stamp, is_fresh, is_full, is_recovered, is_untouched, stamp_decided, stamp_of, with_answer, with_command, with_stamp, with_vote}
 use Rattle.tp_rules.specs.declared.event.Inner.TheVariants.{Announce, Recover}
 use Rattle.tp_topology.specs.Ballots.{next_ballot}
-use Rattle.tp_topology.specs.Shape.{Shape, slow_size}
+use Rattle.tp_topology.specs.Shape.{slow_size}
 use Rattle.tp_wire.specs.declared.message.Body.{Body}
 use Rattle.tp_wire.specs.declared.message.Body.TheVariants.{MSubmit, MPropose, MPayload, MProposeAck, MBump, MConsensus, MConsensusAck, MCommit, MRec, MRecAck}
-use Rattle.tp_wire.specs.declared.message.Message.{Message}
 use Rattle.tp_quiet.proofs.LowSaid.{final_stamp_low}
 use Rattle.tp_quiet.proofs.LowStamps.{IsLowAct, IsLowBody, IsLowSheet, greatest_low}
 

@@ -1,10 +1,9 @@
 -- What an executor declared it told the executors of the other partitions, and what it executed it told the session. Each act
 -- keeps this.
 -- Used for the executors and sessions in a run in which nothing is pending.
-use Rattle.std.proofs.Common.{◌≡◌, ℕ, Bool, inl, inr, true, false, List, [], ◌∷◌, ◌++◌, map, Option, Some, None, refl, sym, ap, subst, ◌∙◌}
-use Rattle.std.specs.Prelude.{◌==◌, ◌&&◌, not}
+use Rattle.std.proofs.Common.{◌≡◌, ℕ, inl, inr, true, List, [], ◌∷◌, ◌++◌, Option, Some, None, refl, sym, ap, subst, ◌∙◌}
+use Rattle.std.specs.Prelude.{not}
 use Rattle.std.specs.List.{flat_map}
-use Rattle.std.proofs.lemmas.Bool.{cases_Bool, cond_both, or_parts}
 use Rattle.tp_base.proofs.Members.{flat_in, has_in, in_has, in_left, in_right, in_either, map_in}
 use Rattle.tp_base.proofs.SameNames.{same_id_is, same_id_refl}
 use Rattle.tp_base.specs.Limits.{IsFrom}

@@ -1,7 +1,7 @@
 -- Where the commits and payloads of a process go: a payload to its own partition, a commit to the partitions that its command
 -- accesses, or to a process of the own partition that asked.
 -- Used for what processes take: its command accesses their partition.
-use Rattle.std.proofs.Common.{◌≡◌, ℕ, ◌⊎◌, Bool, inl, inr, true, cond, List, [], ◌∷◌, ◌++◌, map, Option, Some, None, refl, sym, subst}
+use Rattle.std.proofs.Common.{◌≡◌, ℕ, ◌⊎◌, inl, inr, List, [], ◌∷◌, map, Option, Some, None, refl, sym, subst}
 use Rattle.std.specs.Prelude.{filter, not}
 use Rattle.std.specs.List.{flat_map}
 use Rattle.std.proofs.lemmas.Bool.{cond_both}
@@ -55,15 +55,18 @@ module _ (s : QuorumRule) (me : Site) where
   directed_more : (act : Act) (acts : List Act) (to : ActorName) (body : Body) → GoesTo acts to body
       → GoesTo (act ∷ acts) to body
   directed_more act acts to (MPayload c) h = h
-  directed_more act acts to (MCommit c q t) h = (h.0, elim h.1 [
-    | inl accesses ↦ inl accesses
-    | inr asks ↦ inr (record {
-      question = asks.question;
-      taken = inr asks.taken;
-      peer = asks.peer;
-      from = asks.from;
-    })
-  ])
+  directed_more act acts to (MCommit c q t) h = (
+    h.0,
+    elim h.1 [
+      | inl accesses ↦ inl accesses
+      | inr asks ↦ inr (record {
+        question = asks.question;
+        taken = inr asks.taken;
+        peer = asks.peer;
+        from = asks.from;
+      })
+    ],
+  )
   directed_more act acts to _ h = tt
 
   module _ (acts : List Act) where
@@ -101,8 +104,11 @@ module _ (s : QuorumRule) (me : Site) where
         each_of Directed (map (λ to. message (Process me) to (MCommit c me.partition (stamp t))) names)
         (λ m there.
         let of = in_map (λ to. message (Process me) to (MCommit c me.partition (stamp t))) names m there in
-        subst Directed (sym of.2) (refl, inl (goes_to of.0 all refl
-        (filter_in (λ (to : ActorName). not (same_name to (Process me))) all of.0 of.1).0)))
+        subst Directed (sym of.2) (
+          refl,
+          inl (goes_to of.0 all refl
+              (filter_in (λ (to : ActorName). not (same_name to (Process me))) all of.0 of.1).0),
+        ))
       where
         goes_to : (to : ActorName) (all : List ActorName) → all ≡ flat_map (processes_of s.shape) (accessed s.shape c)
             → IsIn to all → IsToAccessed s.shape c to

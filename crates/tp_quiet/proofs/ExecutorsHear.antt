@@ -1,8 +1,8 @@
 -- What an executor took it keeps: promises that were told, commands that are committed, and declarations of other partitions.
 -- Used for the executors in a run in which nothing is pending.
-use Rattle.std.proofs.Common.{◌≡◌, ℕ, Bool, inl, inr, true, false, cond, List, [], ◌∷◌, map, Option, Some, None, refl, sym, ap, subst, ◌∙◌}
+use Rattle.std.proofs.Common.{◌≡◌, Bool, inl, inr, true, false, List, [], ◌∷◌, Option, Some, None, refl, sym, subst}
 use Rattle.std.specs.Prelude.{◌==◌, ◌&&◌, not}
-use Rattle.std.proofs.lemmas.Bool.{both_ways, cond_both, eq-eqb, eqb-true, not-true}
+use Rattle.std.proofs.lemmas.Bool.{both_ways, cond_both, eq-eqb, eqb-true}
 use Rattle.tp_base.proofs.Members.{has_in, in_map}
 use Rattle.tp_base.proofs.SameNames.{same_id_is}
 use Rattle.tp_base.specs.Lists.{IsIn, has}
@@ -13,7 +13,7 @@ use Rattle.tp_base.specs.declared.names.CommandId.{CommandId}
 use Rattle.tp_base.specs.declared.names.Site.{Site}
 use Rattle.tp_rules.specs.Acts.{Act, Took, Did}
 use Rattle.tp_rules.specs.Addresses.{is_body_at, is_name_of, partition_of, rank_of}
-use Rattle.tp_rules.specs.Executor.{Committed, ExecutorState, Heard, Step, committed_ids, declare_least, execute_least, least, on_body, on_message, react, state_after, waiting}
+use Rattle.tp_rules.specs.Executor.{Committed, ExecutorState, Heard, Step, committed_ids, declare_least, execute_least, least, on_body, react, state_after, waiting}
 use Rattle.tp_rules.specs.declared.event.Inner.TheVariants.{Declare, Execute}
 use Rattle.tp_topology.specs.Shape.{Shape}
 use Rattle.tp_topology.specs.Stability.{Telling}

@@ -4,8 +4,7 @@
 use Rattle.std.proofs.Common.{◌≡◌, ℕ, zero, suc, ◌≤◌, true, List, [], None, is_some, length, refl, sym, subst, arith}
 use Rattle.std.specs.Prelude.{reverse}
 use Rattle.tp_base.proofs.Each.{each_in, each_of}
-use Rattle.tp_base.specs.Limits.{IsFrom}
-use Rattle.tp_base.specs.Lists.{Each, IsIn, has}
+use Rattle.tp_base.specs.Lists.{IsIn, has}
 use Rattle.tp_base.specs.Names.{same_id}
 use Rattle.tp_base.specs.declared.names.ActorName.TheVariants.{Executor, Process, Session}
 use Rattle.tp_base.specs.declared.names.CommandId.{CommandId}
@@ -24,10 +23,9 @@ use Rattle.tp_rules.proofs.SendsOfProcess.{stamp}
 use Rattle.tp_rules.proofs.Unannounced.{site_listed}
 use Rattle.tp_rules.proofs.Unexecuted.{executor_of}
 use Rattle.tp_rules.proofs.Unsubmitted.{command_numbered, submitted_by}
-use Rattle.tp_rules.specs.Acts.{Took}
 use Rattle.tp_rules.specs.Addresses.{accessed, is_site_of, message, site}
 use Rattle.tp_rules.specs.Journal.{IsSent, acts, identity_in, is_known}
-use Rattle.tp_rules.specs.Outcome.{commits, executions, first_result, reply_to}
+use Rattle.tp_rules.specs.Outcome.{first_result, reply_to}
 use Rattle.tp_rules.specs.Pending.{IsQuiet, pending, sites_of}
 use Rattle.tp_rules.specs.Rules.{enabled}
 use Rattle.tp_rules.specs.Runs.{IsFreeHistory, IsHistory, IsRun}
@@ -38,7 +36,7 @@ use Rattle.tp_wire.specs.declared.message.Body.TheVariants.{MCommitted, MResult}
 use Rattle.tp_wire.specs.declared.message.Message.{Message}
 use Rattle.tp_quiet.proofs.AllCommitted.{committed_at, committed_by, listed_accessed}
 use Rattle.tp_quiet.proofs.AllExecuted.{all_executed}
-use Rattle.tp_quiet.proofs.Answered.{IsSubmittedAt, all_submitted_by, counted_submitted, number_within, reply_some, result_first}
+use Rattle.tp_quiet.proofs.Answered.{all_submitted_by, counted_submitted, number_within, reply_some, result_first}
 use Rattle.tp_quiet.proofs.AtRest.{at_rest}
 use Rattle.tp_quiet.proofs.Declared.{all_told, executor_acts_are_sent}
 use Rattle.tp_quiet.proofs.IdleExecutors.{idle}

@@ -1,7 +1,7 @@
 -- Where each message was taken and nobody has a step to make, the executors are idle: what is committed anywhere is committed
 -- at each site of its partitions with one key, and is stable there; what was declared was heard.
 -- Used for what is executed in a run in which nothing is pending.
-use Rattle.std.proofs.Common.{◌≡◌, ◌≢◌, ℕ, ◌<◌, ◌≤◌, Bool, inl, inr, true, false, cond, List, [], ◌∷◌, Option, Some, None, is_some, refl, sym, ap, subst, ◌∙◌, arith}
+use Rattle.std.proofs.Common.{◌≡◌, ◌≢◌, ℕ, ◌≤◌, Bool, inl, inr, true, false, cond, List, [], ◌∷◌, Option, Some, None, is_some, refl, sym, ap, subst, ◌∙◌, arith}
 use Rattle.std.specs.Prelude.{◌==◌, ◌&&◌, is_none, nat_lt, not}
 use Rattle.std.specs.List.{list_any}
 use Rattle.std.proofs.lemmas.Bool.{and_from, cond_both, eq-eqb, eqb-true, ltb-false, or_left, or_right}
@@ -11,20 +11,20 @@ use Rattle.tp_base.specs.Limits.{IsFrom}
 use Rattle.tp_base.specs.Lists.{Each, IsIn, has}
 use Rattle.tp_base.specs.Names.{same_id, same_name}
 use Rattle.tp_base.specs.declared.names.ActorName.{ActorName}
-use Rattle.tp_base.specs.declared.names.ActorName.TheVariants.{Executor, Process, Session}
+use Rattle.tp_base.specs.declared.names.ActorName.TheVariants.{Executor, Process}
 use Rattle.tp_base.specs.declared.names.CommandId.{CommandId}
 use Rattle.tp_base.specs.declared.names.Key.{Key}
 use Rattle.tp_base.specs.declared.names.Pair.{Pair}
 use Rattle.tp_base.specs.declared.names.Site.{Site}
 use Rattle.tp_agreement.proofs.KnownStamps.{acts_are_sent}
 use Rattle.tp_facts.proofs.Commands.{accessed_from, command_in, command_in_names}
-use Rattle.tp_facts.proofs.Facts.{IsCommandOf, KeepsCommand}
+use Rattle.tp_facts.proofs.Facts.{KeepsCommand}
 use Rattle.tp_facts.proofs.RunFacts.{FactsAt, run_holds}
 use Rattle.tp_facts.specs.Settled.{Settled}
 use Rattle.tp_ops.specs.Parts.{is_accessed}
 use Rattle.tp_ops.specs.declared.command.Command.{Command}
 use Rattle.tp_order.proofs.CommittedAndDue.{committed_is_due, knows, tellings_are_true}
-use Rattle.tp_order.proofs.Knowledge.{CommittedMessage, KnowsByMessages, PromisesMessage}
+use Rattle.tp_order.proofs.Knowledge.{CommittedMessage, PromisesMessage}
 use Rattle.tp_order.proofs.SentCommits.{sent_is_commit}
 use Rattle.tp_order.proofs.Stability.{IsTrueTelling}
 use Rattle.tp_order.specs.Due.{final_key, final_owner}
@@ -37,29 +37,27 @@ use Rattle.tp_rules.proofs.SendsOfProcess.{stamp}
 use Rattle.tp_rules.proofs.Tallies.{filter_in, in_filter}
 use Rattle.tp_rules.proofs.Unannounced.{site_listed}
 use Rattle.tp_rules.proofs.Unexecuted.{executor_of}
-use Rattle.tp_rules.specs.Acts.{Took}
-use Rattle.tp_rules.specs.Addresses.{accessed, is_body_at, is_name_of, is_site_of, message, others_accessed, site}
+use Rattle.tp_rules.specs.Addresses.{accessed, is_name_of, is_site_of, message, others_accessed, site}
 use Rattle.tp_rules.specs.Executor.{Committed, Heard, committed_ids, is_heard, is_undeclared}
 use Rattle.tp_rules.specs.Journal.{IsSent, acts, identity_in, is_known}
 use Rattle.tp_rules.specs.Pending.{sites_of}
-use Rattle.tp_rules.specs.Process.{ProcessState, state_after}
+use Rattle.tp_rules.specs.Process.{ProcessState}
 use Rattle.tp_rules.specs.Rules.{enabled}
 use Rattle.tp_rules.specs.Sheet.{QuorumRule, ring_rule}
 use Rattle.tp_rules.specs.declared.event.Entry.{Entry}
-use Rattle.tp_rules.specs.declared.event.Inner.{Inner}
 use Rattle.tp_rules.specs.declared.event.Inner.TheVariants.{Announce}
 use Rattle.tp_script.specs.declared.script.Script.{Script}
-use Rattle.tp_topology.specs.Stability.{Telling, attached_to, is_stable}
+use Rattle.tp_topology.specs.Stability.{attached_to, is_stable}
 use Rattle.tp_wire.specs.declared.message.Body.TheVariants.{MCommitted, MPromises, MStable}
 use Rattle.tp_wire.specs.declared.message.Message.{Message}
-use Rattle.tp_quiet.proofs.AllCommitted.{IsCommittedBy, accessed_listed, committed_at, committed_by, has_committed, listed_accessed}
+use Rattle.tp_quiet.proofs.AllCommitted.{accessed_listed, committed_at, committed_by, has_committed, listed_accessed}
 use Rattle.tp_quiet.proofs.AllExecuted.{AreIdle}
 use Rattle.tp_quiet.proofs.AllStable.{IsToldBy, all_stable}
 use Rattle.tp_quiet.proofs.AllStanding.{all_standing}
-use Rattle.tp_quiet.proofs.Announced.{IsAnnounced, all_announced}
+use Rattle.tp_quiet.proofs.Announced.{all_announced}
 use Rattle.tp_quiet.proofs.Declared.{all_told, executor_acts_are_sent}
 use Rattle.tp_quiet.proofs.ExecutedDeclared.{executed_was_ready}
-use Rattle.tp_quiet.proofs.ExecutorsHear.{IsCommittedAs, IsNamed, all_heeded}
+use Rattle.tp_quiet.proofs.ExecutorsHear.{IsNamed, all_heeded}
 use Rattle.tp_quiet.proofs.Room.{listed_is, process_at, sound}
 use Rattle.tp_quiet.proofs.Stuck.{IsTakenIn}
 use Rattle.tp_quiet.proofs.Submitted.{committed_submitted, kept_submitted}

@@ -1,7 +1,6 @@
 -- Stamps that a process keeps and sends are at most a number, where those that it takes are, and its clock after the step.
 -- Used for the room of clocks.
-use Rattle.std.proofs.Common.{◌≡◌, ℕ, ◌≤◌, Bool, cond, List, [], ◌∷◌, ◌++◌, Option, Some, None, sym, subst, arith}
-use Rattle.std.specs.Prelude.{replicate}
+use Rattle.std.proofs.Common.{ℕ, ◌≤◌, Option, Some, None, sym, subst, arith}
 use Rattle.std.proofs.lemmas.Bool.{cond_both}
 use Rattle.tp_base.proofs.Each.{each_weaker}
 use Rattle.tp_base.specs.Lists.{Each}
@@ -19,7 +18,7 @@ use Rattle.tp_rules.proofs.sent.SendsOfProcess.{each_to}
 use Rattle.tp_rules.specs.Acts.{Act, Took, Did}
 use Rattle.tp_rules.specs.Addresses.{executors_of}
 use Rattle.tp_rules.specs.Process.{ProcessState, Step, announced, commit_reply, start, untold}
-use Rattle.tp_rules.specs.Sheet.{Proposed, QuorumRule, Sheet, blank, stamp_of}
+use Rattle.tp_rules.specs.Sheet.{Proposed, QuorumRule, Sheet, blank}
 use Rattle.tp_topology.specs.Shape.{Shape}
 use Rattle.tp_wire.specs.declared.message.Body.{Body}
 use Rattle.tp_wire.specs.declared.message.Body.TheVariants.{MPropose, MProposeAck, MBump, MConsensus, MCommit, MPromises, MRecAck, MCommitted}

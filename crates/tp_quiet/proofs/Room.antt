@@ -1,6 +1,6 @@
 -- In each run no stamp is above the count of the proposals that were made, and these are few: each step of a process has room.
 -- Used for what a process takes in a run in which nothing is pending.
-use Rattle.std.proofs.Common.{◌≡◌, ℕ, ◌+◌, ◌≤◌, ◌<◌, inl, inr, true, List, [], ◌∷◌, ◌++◌, length, map, Some, refl, sym, ap, subst, arith}
+use Rattle.std.proofs.Common.{◌≡◌, ℕ, ◌+◌, ◌≤◌, inl, inr, true, List, [], ◌∷◌, length, map, Some, refl, sym, subst, arith}
 use Rattle.std.specs.Prelude.{nat_lt}
 use Rattle.tp_base.proofs.Each.{each_append, each_in, each_weaker}
 use Rattle.tp_base.specs.Limits.{IsFrom, STAMP_LIMIT}
@@ -16,20 +16,20 @@ use Rattle.tp_facts.proofs.Senders.{IsOfProcess, sender_of, sent_by_process}
 use Rattle.tp_facts.proofs.StepCases.{ProcessStep, does_nothing, bumps_clock, announces, passes_commit_on, changes_sheet, attaches_proposal}
 use Rattle.tp_ops.specs.declared.command.Command.{Command}
 use Rattle.tp_rules.proofs.ActsMore.{acts_step, acts_then}
-use Rattle.tp_rules.proofs.lists.Distinct.{distinct_within}
-use Rattle.tp_rules.proofs.sent.EachSent.{acts_pass, history_passes}
-use Rattle.tp_rules.proofs.fit.Messages.{IsFit, IsFitAct, site_known}
-use Rattle.tp_rules.proofs.fit.Choices.{ring_has_fast_size}
-use Rattle.tp_rules.proofs.fit.Processes.{IsProcessSound, ids_of}
-use Rattle.tp_rules.proofs.fit.Rules.{process_sound}
-use Rattle.tp_rules.proofs.fit.InRange.{fit_handed_on}
-use Rattle.tp_rules.proofs.lists.Selections.{each_image, each_spread, each_up_to}
-use Rattle.tp_rules.proofs.lists.Tallies.{lower_total, total_bound}
-use Rattle.tp_rules.proofs.ends.Unannounced.{site_listed}
-use Rattle.tp_rules.proofs.lists.UpTo.{flat_length, length-up_to, map_length}
+use Rattle.tp_rules.proofs.Distinct.{distinct_within}
+use Rattle.tp_rules.proofs.EachSent.{acts_pass, history_passes}
+use Rattle.tp_rules.proofs.Fit.{IsFit, site_known}
+use Rattle.tp_rules.proofs.FitChoices.{ring_has_fast_size}
+use Rattle.tp_rules.proofs.FitProcesses.{IsProcessSound, ids_of}
+use Rattle.tp_rules.proofs.FitRules.{process_sound}
+use Rattle.tp_rules.proofs.InRange.{fit_handed_on}
+use Rattle.tp_rules.proofs.Selections.{each_image, each_spread, each_up_to}
+use Rattle.tp_rules.proofs.Tallies.{lower_total, total_bound}
+use Rattle.tp_rules.proofs.Unannounced.{site_listed}
+use Rattle.tp_rules.proofs.UpTo.{flat_length, length-up_to, map_length}
 use Rattle.tp_rules.specs.Acts.{Act, Took, Did}
 use Rattle.tp_rules.specs.Addresses.{is_site_of, site}
-use Rattle.tp_rules.specs.Journal.{IsSent, act_of, acts, is_known, ranks_of}
+use Rattle.tp_rules.specs.Journal.{IsSent, act_of, acts, ranks_of}
 use Rattle.tp_rules.specs.Left.{total}
 use Rattle.tp_rules.specs.Pending.{sites_of}
 use Rattle.tp_rules.specs.Process.{ProcessState, Step, on_body, react, state_after}

@@ -1,7 +1,7 @@
 -- Where each message was taken, admitted and in time, and a full fast quorum acknowledged, some process of a partition knows
 -- the stamp of a command.
 -- Used for each command and each of its partitions in a run in which nothing is pending.
-use Rattle.std.proofs.Common.{◌≡◌, ◌≢◌, ◌⊎◌, ℕ, ◌<◌, ◌≤◌, inl, inr, true, false, List, [], ◌∷◌, length, Option, Some, None, is_some, refl, sym, ap, subst, ◌∙◌, arith}
+use Rattle.std.proofs.Common.{◌≡◌, ◌≢◌, ◌⊎◌, ℕ, ◌<◌, ◌≤◌, inl, inr, true, false, List, length, Option, Some, None, is_some, refl, sym, ap, subst, ◌∙◌, arith}
 use Rattle.std.specs.Prelude.{is_none}
 use Rattle.std.proofs.lemmas.Bool.{and_from, both_ways, cases_eq, cases_lt}
 use Rattle.tp_base.proofs.Each.{each_in}

@@ -1,26 +1,24 @@
 -- A command that was submitted was sent to its home in each partition that it accesses, each command that an actor of the run
 -- keeps was submitted, and the first commands of a session that it counts as submitted were.
 -- Used for each command in a run in which nothing is pending.
-use Rattle.std.proofs.Common.{◌≡◌, ◌⊎◌, ℕ, suc, ◌+◌, ◌<◌, ◌≤◌, Bool, inl, inr, true, false, List, [], ◌∷◌, length, map, Option, Some, None, refl, sym, ap, subst, ◌∙◌, arith}
-use Rattle.std.specs.Prelude.{◌-◌, ◌==◌, option_map, slice_get, unwrap_or}
+use Rattle.std.proofs.Common.{◌≡◌, ℕ, suc, inl, inr, true, List, [], ◌∷◌, map, Option, Some, None, sym, ap, subst, ◌∙◌, arith}
+use Rattle.std.specs.Prelude.{◌-◌, option_map, slice_get, unwrap_or}
 use Rattle.std.specs.List.{list_any}
-use Rattle.std.proofs.lemmas.Bool.{and_from, and_parts, cases_eq, eq-eqb, eqb-true, or_cases, or_left, or_right}
+use Rattle.std.proofs.lemmas.Bool.{and_parts, eqb-true, or_cases}
 use Rattle.tp_base.proofs.Each.{each_in, each_of}
 use Rattle.tp_base.proofs.Members.{map_in}
-use Rattle.tp_base.proofs.SameNames.{same_name_is, same_name_refl}
+use Rattle.tp_base.proofs.SameNames.{same_name_is}
 use Rattle.tp_base.specs.Lists.{Each, IsIn}
 use Rattle.tp_base.specs.Names.{same_name}
 use Rattle.tp_base.specs.declared.names.ActorName.{ActorName}
 use Rattle.tp_base.specs.declared.names.ActorName.TheVariants.{Executor, Process, Session}
-use Rattle.tp_base.specs.declared.names.CommandId.{CommandId}
 use Rattle.tp_base.specs.declared.names.Rank.{Rank}
-use Rattle.tp_base.specs.declared.names.SessionId.{SessionId}
 use Rattle.tp_base.specs.declared.names.Site.{Site}
 use Rattle.tp_facts.proofs.Commands.{command_is}
 use Rattle.tp_facts.proofs.Deliveries.{took_sent}
 use Rattle.tp_ops.specs.declared.command.Command.{Command}
 use Rattle.tp_replies.proofs.SessionCommands.{command_at}
-use Rattle.tp_replies.proofs.Submissions.{IsSubmitted, OfSubmitted, carried}
+use Rattle.tp_replies.proofs.Submissions.{IsSubmitted, carried}
 use Rattle.tp_rules.proofs.CarriedCommands.{Carries, CommitsOnly, KeepsOnly, Takes, executor_commits_only, process_keeps_only}
 use Rattle.tp_rules.specs.Acts.{Act, Client, Took, Did}
 use Rattle.tp_rules.specs.Addresses.{accessed, message, site}
@@ -28,7 +26,7 @@ use Rattle.tp_rules.specs.Executor as executor
 use Rattle.tp_rules.specs.Process as process
 use Rattle.tp_rules.specs.Session as session
 use Rattle.tp_rules.specs.Journal.{IsSent, act_of, acts, client_of, commands_of, home_of}
-use Rattle.tp_rules.specs.Outcome.{command_of, is_submission_of, is_submit}
+use Rattle.tp_rules.specs.Outcome.{is_submission_of, is_submit}
 use Rattle.tp_rules.specs.Runs.{IsFreeHistory, outputs_by}
 use Rattle.tp_rules.specs.Sheet.{ring_rule}
 use Rattle.tp_rules.specs.Tables.{nth}

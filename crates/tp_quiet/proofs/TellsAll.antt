@@ -1,6 +1,6 @@
 -- A process that learns its partition's stamp tells it to all processes of all partitions that the command accesses, or was
 -- told it. Used for what all processes know in a run in which nothing is pending.
-use Rattle.std.proofs.Common.{◌≡◌, ◌≢◌, ◌⊎◌, ℕ, inl, inr, true, false, cond, List, [], ◌∷◌, ◌++◌, map, Option, Some, None, is_some, refl, sym, ap, subst, ◌∙◌}
+use Rattle.std.proofs.Common.{◌≡◌, ◌≢◌, ◌⊎◌, ℕ, inl, inr, true, false, List, ◌++◌, map, Option, Some, None, is_some, refl, sym, ap, subst, ◌∙◌}
 use Rattle.std.specs.Prelude.{filter, is_none, not}
 use Rattle.std.specs.List.{flat_map}
 use Rattle.std.proofs.lemmas.Bool.{not_from_false}
@@ -24,10 +24,9 @@ use Rattle.tp_rules.proofs.lists.UpTo.{in_up_to}
 use Rattle.tp_rules.specs.Acts.{Act, Took}
 use Rattle.tp_rules.specs.Addresses.{accessed, message, processes_of, rank_of, site}
 use Rattle.tp_rules.specs.Process.{ProcessState, Step, commit_messages}
-use Rattle.tp_rules.specs.Sheet.{QuorumRule, Sheet, stamp_of}
-use Rattle.tp_base.specs.Tables.{kept_at, with_nth}
+use Rattle.tp_rules.specs.Sheet.{QuorumRule, Sheet}
+use Rattle.tp_rules.specs.Tables.{kept_at, with_nth}
 use Rattle.tp_topology.specs.Counting.{up_to}
-use Rattle.tp_topology.specs.Shape.{Shape}
 use Rattle.tp_wire.specs.declared.message.Body.TheVariants.{MCommit}
 use Rattle.tp_wire.specs.declared.message.Message.{Message}
 use Rattle.tp_quiet.proofs.EachSheet.{each_sheet}
@@ -94,8 +93,11 @@ module _ (s : QuorumRule) (me : Site) (of : CommandId → Command) where
       → IsGenuine of act → KeepsCommand of id old.command → (is_none old.put ≡ false → is_some old.command ≡ true)
       → Knows me.partition.0 new → Knows me.partition.0 old ⊎ LearnsOrTells act out id
   sheet_tells {old = old} (decides_fast {m} id t e can full fast last) genuine keeps put known =
-      inr (inl (_, kept_command_told id old.command _ _ keeps
-      (has_command_of_member s me.rank.0 (rank_of m.from) old.command can.member)))
+      inr (inl (
+        _,
+        kept_command_told id old.command _ _ keeps
+            (has_command_of_member s me.rank.0 (rank_of m.from) old.command can.member),
+      ))
   sheet_tells (decides_by_votes base id x e none enough last) genuine keeps put known =
       inr (inl (_, kept_command_told id base.command _ _ keeps (put refl)))
   sheet_tells {old = old} (learns {m} c q t e none last) genuine keeps put known =

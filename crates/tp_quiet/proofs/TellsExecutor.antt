@@ -1,7 +1,7 @@
 -- A process that knows the stamps of all partitions that a command accesses has told its executor the command's stamp, and its
 -- clock is there. Each act keeps this.
 -- Used for what executors know in a run in which nothing is pending.
-use Rattle.std.proofs.Common.{◌≡◌, ℕ, ◌<◌, ◌≤◌, Bool, inl, inr, true, false, cond, List, [], ◌∷◌, ◌++◌, map, max, Option, Some, None, is_some, refl, sym, ap, subst, ◌∙◌, arith}
+use Rattle.std.proofs.Common.{◌≡◌, ℕ, ◌≤◌, inl, inr, true, false, List, [], ◌∷◌, ◌++◌, map, max, Option, Some, None, is_some, refl, sym, ap, subst, ◌∙◌, arith}
 use Rattle.std.specs.Prelude.{◌&&◌, is_none, nat_lt, replicate, unwrap_or}
 use Rattle.std.specs.List.{list_all}
 use Rattle.std.proofs.lemmas.Bool.{and_from, and_parts, cond_both, cond-true}
@@ -30,9 +30,9 @@ use Rattle.tp_quorum.specs.declared.choice.FastChoice.TheVariants.{Fast, Slow}
 use Rattle.tp_rules.proofs.sent.SendsOfProcess.{stamp}
 use Rattle.tp_rules.specs.Acts.{Act, Took, Did}
 use Rattle.tp_rules.specs.Addresses.{accessed, is_body_at, is_name_of, message, rank_of}
-use Rattle.tp_rules.specs.Process.{ProcessState, Step, commit_messages, conclude_fast_path, decided, finished, follow_choice, learned, on_body, on_commit, on_consensus_ack, on_propose_ack, react, start, state_after, voted, with_room, with_sheet}
-use Rattle.tp_rules.specs.Sheet.{QuorumRule, Sheet, acknowledged, blank, can_acknowledge, can_vote, command_or, final_stamp, greatest_known, is_full, putting, stamp_decided, stamp_of, stamps_of, with_command, with_stamp, with_vote}
-use Rattle.tp_base.specs.Tables.{kept_at}
+use Rattle.tp_rules.specs.Process.{ProcessState, Step, commit_messages, conclude_fast_path, decided, finished, follow_choice, learned, on_body, on_commit, on_consensus_ack, on_propose_ack, react, state_after, voted, with_room, with_sheet}
+use Rattle.tp_rules.specs.Sheet.{QuorumRule, Sheet, acknowledged, blank, can_acknowledge, can_vote, final_stamp, greatest_known, is_full, putting, stamp_decided, stamp_of, stamps_of, with_command, with_stamp, with_vote}
+use Rattle.tp_rules.specs.Tables.{kept_at}
 use Rattle.tp_wire.specs.declared.message.Body.{Body}
 use Rattle.tp_wire.specs.declared.message.Body.TheVariants.{MCommit, MCommitted, MConsensusAck, MProposeAck}
 use Rattle.tp_wire.specs.declared.message.Message.{Message}
