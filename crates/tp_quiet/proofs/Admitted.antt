@@ -1,5 +1,5 @@
--- In each run a process admits each message that it takes: its names are of the shape, its command accesses the partition, and
--- the clock has room.
+-- In each run a process admits each message that it takes: its names are of the shape, its command accesses the
+-- partition, and the clock has room.
 -- Used for what processes take in a run in which nothing is pending.
 use Rattle.std.proofs.Common.{◌≡◌, ℕ, Bool, inl, inr, true, List, [], ◌∷◌, map, Option, Some, None, refl, sym, ap, subst, ◌∙◌}
 use Rattle.std.specs.Prelude.{◌&&◌}
@@ -89,14 +89,16 @@ module _ (script : Script) (accepted : IsAccepted script) where
   abbrev IsRight : Message → Type 0
   IsRight m = GoesRight m.to m.body
 
-  submissions_right : (client : Client) (o : Option Command) → Each IsRight (session.submissions script.topology client o)
+  submissions_right : (client : Client) (o : Option Command)
+      → Each IsRight (session.submissions script.topology client o)
   submissions_right client None = tt
   submissions_right client (Some c) =
       let names : List ActorName = map (λ p. Process (site p client.home)) (accessed script.topology c) in
       each_of IsRight (map (λ to. message (Session client.session) to (MSubmit c)) names)
       (λ m there.
       let by = in_map (λ to. message (Session client.session) to (MSubmit c)) names m there in
-      subst IsRight (sym by.2) (goes by.0 (in_map (λ p. Process (site p client.home)) (accessed script.topology c) by.0 by.1)))
+      subst IsRight (sym by.2) (goes by.0
+      (in_map (λ p. Process (site p client.home)) (accessed script.topology c) by.0 by.1)))
     where
       goes : (to : ActorName) → (p : ℕ) × IsIn p (accessed script.topology c) × (to ≡ Process (site p client.home))
           → IsToAccessed script.topology c to
@@ -182,14 +184,16 @@ module _ (script : Script) (accepted : IsAccepted script) where
       (λ id. keeps_here k.partition.0 id (state.sheets id).command (sound.sheets id).command (facts.sheets id).command))
       (acts_carry k at before all.1 genuine.1)
 
-  pub sent_carries : (older : List Entry) → IsFreeHistory script older → (k : Site) → is_site_of script.topology k ≡ true
+  pub sent_carries : (older : List Entry) → IsFreeHistory script older → (k : Site)
+      → is_site_of script.topology k ≡ true
       → (m : Message) → IsIn m (sent_by rule k (acts older (Process k))) → Carries (Accesses k.partition.0) m.body
   sent_carries older history k at m there =
       each_in (Carried k.partition.0) (sent_by rule k (acts older (Process k))) m
       (acts_carry k at (acts older (Process k)) (fits script accepted older history (Process k))
       (are_genuine script accepted older history k)) there
 
-  pub command_at : (p : ℕ) (c : Command) → IsIn c script.commands → Accesses p c → is_command_at script.topology p c ≡ true
+  pub command_at : (p : ℕ) (c : Command) → IsIn c script.commands → Accesses p c
+      → is_command_at script.topology p c ≡ true
   command_at p c ours accesses =
       and_from (is_between c.home.0 script.topology.replicas) (is_accessed script.topology.partitions c p)
       (is_between-from c.home.0 script.topology.replicas (home_in_range script accepted c ours)) accesses
@@ -210,7 +214,8 @@ module _ (script : Script) (accepted : IsAccepted script) where
     to = (sent_before script older history (Process k) m there).1
 
     fit : IsFit script m
-    fit = each_in (IsFitAct script) (acts older (Process k)) (Took m) (fits script accepted older history (Process k)) there
+    fit = each_in (IsFitAct script) (acts older (Process k)) (Took m)
+        (fits script accepted older history (Process k)) there
 
     -- what a process of the partition sent
     by_peer : IsPeer m.body → Carries (Accesses k.partition.0) m.body
@@ -288,7 +293,8 @@ module _ (script : Script) (accepted : IsAccepted script) where
         by_body _ e range ours = refl
 
   -- each message that a process takes in a run is admitted
-  pub all_admitted : (older : List Entry) → IsFreeHistory script older → (k : Site) → is_site_of script.topology k ≡ true
+  pub all_admitted : (older : List Entry) → IsFreeHistory script older → (k : Site)
+      → is_site_of script.topology k ≡ true
       → AreAdmitted rule k (acts older (Process k))
   all_admitted [] history k at = tt
   all_admitted (e ∷ older) history k at =

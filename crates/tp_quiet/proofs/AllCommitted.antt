@@ -89,18 +89,22 @@ module _ (script : Script) (older : List Entry) (run : IsTakenIn script older) w
     committed_by j at on =
         let told = all_tell_final (ring_rule script.topology) j of (run.here j at) run.accepted.shape
         (acts older (Process j)) (run.genuine j at) c.id
-        (subst (λ (d : Command). IsIn j.partition.0 (accessed script.topology d)) is_of (accessed_listed c j.partition.0 on))
-        (λ q among. knows_all j at on q (subst (λ (d : Command). IsIn q (accessed script.topology d)) (sym is_of) among)) in
+        (subst (λ (d : Command). IsIn j.partition.0 (accessed script.topology d)) is_of
+        (accessed_listed c j.partition.0 on))
+        (λ q among. knows_all j at on q
+        (subst (λ (d : Command). IsIn q (accessed script.topology d)) (sym is_of) among)) in
         record {
           final = told.final;
-          sent = subst (λ (d : Command). IsSent older (message (Process j) (Executor j) (MCommitted d (stamp told.final))))
+          sent = subst (λ (d : Command). IsSent older
+              (message (Process j) (Executor j) (MCommitted d (stamp told.final))))
               (sym is_of) (acts_are_sent script older run.history j _ told.told);
           low = told.low;
         }
 
     -- so each executor of its partitions has it
     pub committed_at : (x : Site) → is_site_of script.topology x ≡ true
-        → is_accessed script.topology.partitions c x.partition.0 ≡ true → IsCommittedAs (executor_of script older x) c.id
+        → is_accessed script.topology.partitions c x.partition.0 ≡ true
+        → IsCommittedAs (executor_of script older x) c.id
     committed_at x at on =
         let by = committed_by x at on in
         let m : Message = message (Process x) (Executor x) (MCommitted c (stamp by.final)) in

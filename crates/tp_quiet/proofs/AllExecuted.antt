@@ -1,4 +1,5 @@
--- Where no executor has a step to make, all that is committed is executed: the least key that waits anywhere could go on.
+-- Where no executor has a step to make, all that is committed is executed: the least key that waits anywhere could go
+-- on.
 -- Used for the executors in the end.
 use Rattle.std.proofs.Common.{◌≡◌, ℕ, Bool, inl, inr, true, false, cond, List, [], ◌∷◌, Option, Some, None, refl, subst, arith}
 use Rattle.std.specs.Prelude.{◌==◌, ◌&&◌, not}
@@ -85,7 +86,8 @@ ready_where : (state : ExecutorState) (id : CommandId) (others : List ℕ) → i
     is_ready state id others ≡ true
 ready_where state id [] e h = refl
 ready_where state id (q ∷ qs) e h =
-    and_from (has same_id id state.declared) (list_all (is_heard state id) (q ∷ qs)) (not-false (has same_id id state.declared) e) (all_from (is_heard state id) (q ∷ qs) h)
+    and_from (has same_id id state.declared) (list_all (is_heard state id) (q ∷ qs))
+    (not-false (has same_id id state.declared) e) (all_from (is_heard state id) (q ∷ qs) h)
 
 module _ (shape : Shape) (sites : List Site) (state : Site → ExecutorState) (h : AreIdle shape sites state) where
   abbrev all : List Committed
@@ -98,7 +100,12 @@ module _ (shape : Shape) (sites : List Site) (state : Site → ExecutorState) (h
 
   waiting_at : (x : Site) (c : Committed) → IsIn x sites → IsIn c (waiting (state x)) → Waiting x c
   waiting_at x c site there =
-      record { site = site; committed = (filter_in (λ (d : Committed). not (has same_id d.key.id (state x).executed)) (state x).committed c there).0; waits = there }
+      record {
+        site = site;
+        committed = (filter_in (λ (d : Committed). not (has same_id d.key.id (state x).executed))
+            (state x).committed c there).0;
+        waits = there;
+      }
 
   -- the least that waits at a site, where one with the least key of all waits there
   record Stands (x : Site) (c : Committed) : Type 0 where
@@ -114,14 +121,16 @@ module _ (shape : Shape) (sites : List Site) (state : Site → ExecutorState) (h
       let e = found.0 in
       let e_there : IsIn e (waiting (state y)) = least_in (waiting (state y)) e found.1 in
       let low : key_lt d.key e.key ≡ false = least_at_most (waiting (state y)) e d found.1 at_y.waits in
-      let high : key_lt e.key c.key ≡ false = least_at_most all c e is (flat_in (λ (z : Site). waiting (state z)) sites y e at_y.site e_there) in
+      let high : key_lt e.key c.key ≡ false = least_at_most all c e is
+      (flat_in (λ (z : Site). waiting (state z)) sites y e at_y.site e_there) in
       let key : e.key ≡ c.key = both_at_most e.key c.key (subst (λ (k : Key). key_lt k e.key ≡ false) same low) high in
       record {
         e = e;
         there = (waiting_at y e at_y.site e_there).committed;
         key = key;
         may =
-            may_not shape y (state y) e (subst (λ (o : Option Committed). enabled_of shape y (state y) o ≡ None) found.1 (h.still y at_y.site));
+            may_not shape y (state y) e (subst
+            (λ (o : Option Committed). enabled_of shape y (state y) o ≡ None) found.1 (h.still y at_y.site));
       }
 
   -- at each site of its partitions it is declared, if it has to be
@@ -135,7 +144,9 @@ module _ (shape : Shape) (sites : List Site) (state : Site → ExecutorState) (h
       elim (cases_Bool (has same_id d.key.id (state y).executed)) [
         | inl executed ↦ as_c d.key d.command found.2 command (h.declared y d site_y found.1 executed)
         | inr waits ↦
-            let w : Waiting y d = waiting_at y d site_y (in_filter (λ (z : Committed). not (has same_id z.key.id (state y).executed)) (state y).committed d found.1 (not_from_false (has same_id d.key.id (state y).executed) waits)) in
+            let w : Waiting y d = waiting_at y d site_y
+            (in_filter (λ (z : Committed). not (has same_id z.key.id (state y).executed))
+            (state y).committed d found.1 (not_from_false (has same_id d.key.id (state y).executed) waits)) in
             let s = stands x y c d is at_x w found.2 in
             let same : s.e.command ≡ c.command = h.one x y c s.e at_x.site site_y at_x.committed s.there s.key in
             as_c s.e.key s.e.command s.key same (right_false _ _ s.may.declare (h.stable y s.e site_y s.there))
@@ -152,8 +163,11 @@ module _ (shape : Shape) (sites : List Site) (state : Site → ExecutorState) (h
   no_least x c is at =
       let s = stands x x c c is at at refl in
       let same : s.e.command ≡ c.command = h.one x x c s.e at.site at.site at.committed s.there s.key in
-      let here : is_undeclared (state x) c.key.id (others_accessed shape c.command x.partition.0) ≡ false = declared_at x x c is at at.site (h.accesses x c at.site at.committed) in
-      let ready : is_ready (state x) c.key.id (others_accessed shape c.command x.partition.0) ≡ true = ready_where (state x) c.key.id _ here heard in
+      let here : is_undeclared (state x) c.key.id
+      (others_accessed shape c.command x.partition.0) ≡ false = declared_at x x c is at at.site
+      (h.accesses x c at.site at.committed) in
+      let ready : is_ready (state x) c.key.id (others_accessed shape c.command x.partition.0) ≡ true = ready_where
+      (state x) c.key.id _ here heard in
       let not_ready : is_ready (state x) c.key.id (others_accessed shape c.command x.partition.0) ≡ false =
       subst (λ (z : Command). is_ready (state x) c.key.id (others_accessed shape z x.partition.0) ≡ false) same
       (subst (λ (z : Key). is_ready (state x) z.id (others_accessed shape s.e.command x.partition.0) ≡ false) s.key
@@ -166,9 +180,12 @@ module _ (shape : Shape) (sites : List Site) (state : Site → ExecutorState) (h
           let y : Site = site q 1 in
           let site_y : IsIn y sites = h.places c.command q parts.0 in
           let back : IsIn x.partition.0 (others_accessed shape c.command q) =
-          in_filter (λ (z : ℕ). not (z == q)) (accessed shape c.command) x.partition.0 (h.accesses x c at.site at.committed)
+          in_filter (λ (z : ℕ). not (z == q)) (accessed shape c.command) x.partition.0
+          (h.accesses x c at.site at.committed)
           (turned q x.partition.0 parts.1) in
-          h.heard x y c at.site site_y at.committed there (declared_of (state y) c.key.id (others_accessed shape c.command q) x.partition.0 back (declared_at x y c is at site_y parts.0))
+          h.heard x y c at.site site_y at.committed there
+          (declared_of (state y) c.key.id (others_accessed shape c.command q) x.partition.0 back
+          (declared_at x y c is at site_y parts.0))
         where
           turned : (a b : ℕ) → not (a == b) ≡ true → not (b == a) ≡ true
           turned a b e = grind (arith, e)
@@ -178,7 +195,9 @@ module _ (shape : Shape) (sites : List Site) (state : Site → ExecutorState) (h
   all_executed x c site there = elim (cases_Bool (has same_id c.key.id (state x).executed)) [
     | inl executed ↦ executed
     | inr waits ↦
-        let w : IsIn c (waiting (state x)) = in_filter (λ (z : Committed). not (has same_id z.key.id (state x).executed)) (state x).committed c there (not_from_false (has same_id c.key.id (state x).executed) waits) in
+        let w : IsIn c (waiting (state x)) = in_filter
+        (λ (z : Committed). not (has same_id z.key.id (state x).executed)) (state x).committed c there
+        (not_from_false (has same_id c.key.id (state x).executed) waits) in
         let found = least_some all c (flat_in (λ (z : Site). waiting (state z)) sites x c site w) in
         let at = in_flat (λ (z : Site). waiting (state z)) sites found.0 (least_in all found.0 found.1) in
         absurd (no_least at.0 found.0 found.1 (waiting_at at.0 found.0 at.1 at.2))

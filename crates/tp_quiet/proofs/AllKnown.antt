@@ -1,5 +1,5 @@
--- Where each message was taken, what one process knows of its partition's stamp all processes know of all partitions that the
--- command accesses: who knew it first told all.
+-- Where each message was taken, what one process knows of its partition's stamp all processes know of all partitions
+-- that the command accesses: who knew it first told all.
 -- Used for each command in a run in which nothing is pending.
 use Rattle.std.proofs.Common.{◌≡◌, ◌≢◌, ℕ, inl, inr, true, List, [], ◌∷◌, Option, Some, None, is_some, refl, sym, subst}
 use Rattle.std.specs.Prelude.{replicate}
@@ -123,7 +123,8 @@ module _ (script : Script) (accepted : IsAccepted script) where
       not_kept None is some = absurd cc
       not_kept (Some t) is some = kept_replicate script.topology.partitions k.partition.0 t is
   has_teller (e ∷ older) history k at id known =
-      let before : Knows k.partition.0 ((process_at script accepted older k).sheets id) → HasTeller older k.partition.0 id =
+      let before : Knows k.partition.0 ((process_at script accepted older k).sheets id)
+      → HasTeller older k.partition.0 id =
       has_teller older history.0 k at id in
       acts_step
       (λ (list : List Act). Knows k.partition.0 ((state_after rule k list).sheets id)
@@ -144,7 +145,8 @@ module _ (script : Script) (accepted : IsAccepted script) where
           (are_genuine script accepted older history.0 j)) mine in
           let knows : Knows k.partition.0 ((process_at script accepted older j).sheets (of id).id) =
           subst (IsFair j (process_at script accepted older j).sheets m.to) is fair in
-          let directed = each_in (IsDirected rule j (acts older (Process j))) (sent_by rule j (acts older (Process j))) m
+          let directed = each_in (IsDirected rule j (acts older (Process j)))
+          (sent_by rule j (acts older (Process j))) m
           (all_directed rule j (acts older (Process j))) mine in
           let partition : k.partition.0 ≡ j.partition.0 =
           (subst (GoesTo rule j (acts older (Process j)) m.to) is directed).0 in
@@ -205,7 +207,8 @@ module _ (script : Script) (older : List Entry) (run : IsTakenIn script older) w
       elim (cases_Bool (same_name (Process j) (Process h.by))) [
         | inl same ↦
             let is : j ≡ h.by = cc_site (same_name_is (Process j) (Process h.by) same) in
-            subst (λ (x : Site). Knows k.partition.0 ((process_at script run.accepted older x).sheets id)) (sym is) h.knows
+            subst (λ (x : Site). Knows k.partition.0 ((process_at script run.accepted older x).sheets id))
+            (sym is) h.knows
         | inr apart ↦
             let c : Command = command_in script.commands id in
             let range = site_is script.topology j at_j in

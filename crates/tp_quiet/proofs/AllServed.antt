@@ -91,6 +91,7 @@ module _ (s : QuorumRule) (me : Site) (of : CommandId → Command) (here : IsHer
       (served_stays s me of (react s me (Took n) state).1 (sent_by s me (Took n ∷ before)) n.from
       (state_after s me (Took n ∷ before)).sheets (state_after s me (Took n ∷ before)).sheets n.body
       (λ id. onward_itself _) (λ x there. in_left (react s me (Took n) state).1 (sent_by s me before) x there)
-      (message_serves s me of n state (λ peer. places before (rank_of n.from) (taken.1.rank peer) h) taken.1.admitted taken.1.timely
+      (message_serves s me of n state
+      (λ peer. places before (rank_of n.from) (taken.1.rank peer) h) taken.1.admitted taken.1.timely
       (λ c. (h.sheets c).places.stamps)))
   all_served (Did inner ∷ before) genuine taken m (inl same) = absurd cc

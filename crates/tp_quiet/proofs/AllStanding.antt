@@ -65,7 +65,8 @@ module _ (s : QuorumRule) (me : Site) (of : CommandId → Command) where
     put_kept = h.put_kept;
     heeded = h.heeded;
     joined = λ some. joined_more s me of act acts sent out id sheet.ballot (h.joined some);
-    reasoned = reasoned_more s me of act acts sent out id sheet.ballot sheet.ballot sheet.proposal (omega arith) h.reasoned;
+    reasoned = reasoned_more s me of act acts sent out id sheet.ballot sheet.ballot sheet.proposal
+        (omega arith) h.reasoned;
   }
 
   module _ (here : IsHere s me) (shape : IsShape s.shape) where
@@ -87,7 +88,8 @@ module _ (s : QuorumRule) (me : Site) (of : CommandId → Command) where
           asked = asked_kept s me of sent change f.command (h i).asked;
           kept = proposed_kept s me of change (h i).kept;
           put_kept = put_kept s me of change (h i).put_kept;
-          heeded = heeded_kept s me of change goes here (omega (arith, here.partition.1, f.places.stamps)) f.gathered.none (h i).heeded;
+          heeded = heeded_kept s me of change goes here
+              (omega (arith, here.partition.1, f.places.stamps)) f.gathered.none (h i).heeded;
           joined = joined_kept s me of before sent change genuine (h i).joined;
           reasoned = reasoned_kept s me of before sent change genuine goes (h i).reasoned;
         })

@@ -73,7 +73,8 @@ module _ (s : QuorumRule) (me : Site) where
   ]
   step_announces sent (passes_commit_on c b t by e known) h = λ n low high. announced_more sent _ n (h n low high)
   step_announces sent (changes_sheet clock le step same) h = λ n low high. announced_more sent _ n (h n low high)
-  step_announces sent (attaches_proposal t made lt step none is) h = λ n low high. announced_more sent _ n (h n low high)
+  step_announces sent (attaches_proposal t made lt step none is) h = λ n low high. announced_more sent _ n
+      (h n low high)
 
   pub all_announced : (acts : List Act) → AreAnnounced (sent_by s me acts) (state_after s me acts).told
   all_announced [] = λ n low high. absurd (omega (arith, low, high))

@@ -1,5 +1,5 @@
--- A session that got the results of all partitions has answered the command, and one whose submitted commands are all answered
--- has submitted all of them, where it has no step to make.
+-- A session that got the results of all partitions has answered the command, and one whose submitted commands are all
+-- answered has submitted all of them, where it has no step to make.
 -- Used for the sessions in a run in which nothing is pending.
 use Rattle.std.proofs.Common.{◌≡◌, ℕ, zero, suc, ◌+◌, ◌≤◌, Bool, inl, inr, true, false, cond, List, [], ◌∷◌, length, Option, Some, None, is_some, refl, sym, ap, subst, ◌∙◌, arith}
 use Rattle.std.specs.Option.{option_or}
@@ -65,9 +65,11 @@ result_some id p answers m is =
     let passes : (same_id id id && (p.0 == p.0)) ≡ true =
     and_from (same_id id id) (p.0 == p.0) (same_id_refl id) (eq-eqb p.0 p.0 refl) in
     ap (λ (body : Body). is_some (result_by id p.0 body)) is
-    ∙ ap (λ (o : Option (List Answer)). is_some o) (cond-true (same_id id id && (p.0 == p.0)) (Some answers) None passes)
+    ∙ ap (λ (o : Option (List Answer)). is_some o)
+    (cond-true (same_id id id && (p.0 == p.0)) (Some answers) None passes)
 
-taken_result : (older : List Entry) (id : CommandId) (p : PartitionId) (answers : List Answer) (m : Message) (event : Event)
+taken_result : (older : List Entry) (id : CommandId) (p : PartitionId) (answers : List Answer) (m : Message)
+    (event : Event)
     → m.body ≡ MResult id p answers → act_of older event ≡ Some (Took m) → is_some (result_at older id p.0 event) ≡ true
 taken_result older id p answers m (Deliver entry place) is took = of_output (output_at older entry place) took
   where
@@ -107,7 +109,8 @@ result_first (e ∷ older) id p answers m is there =
     on_test true o there old new = with_next o there old new
     on_test false o there old new = old there
 
-module _ (script : Script) (accepted : IsAccepted script) (older : List Entry) (history : IsFreeHistory script older) where
+module _ (script : Script) (accepted : IsAccepted script) (older : List Entry)
+    (history : IsFreeHistory script older) where
   -- with a result of each partition the command is answered
   pub reply_some : (c : Command) → IsIn c script.commands
       → ((p : ℕ) → IsIn p (accessed script.topology c) → is_some (first_result older c.id p) ≡ true)
@@ -117,7 +120,8 @@ module _ (script : Script) (accepted : IsAccepted script) (older : List Entry) (
       all_from (λ p. is_some (first_result older c.id p)) (accessed script.topology c) all in
       let value : List Answer =
       merged script.topology.partitions c.ops (λ p. unwrap_or (first_result older c.id p) []) in
-      ap (λ (o : Option Command). is_some (reply_from script (first_result older c.id) o)) (command_is script accepted c ours)
+      ap (λ (o : Option Command). is_some (reply_from script (first_result older c.id) o))
+      (command_is script accepted c ours)
       ∙ ap (λ (b : Bool). is_some (cond b (Some value) None)) whole
 
   -- and the session has its answer
@@ -173,7 +177,8 @@ module _ (script : Script) (accepted : IsAccepted script) (older : List Entry) (
       ]
 
   -- a command's number is among its session's
-  pub number_within : (c : Command) → IsIn c script.commands → IsFrom 1 (length (commands_of script c.id.session)) c.id.number
+  pub number_within : (c : Command) → IsIn c script.commands
+      → IsFrom 1 (length (commands_of script c.id.session)) c.id.number
   number_within c ours =
       of_number c.id.number (command_at script accepted c.id ∙ command_is script accepted c ours)
     where

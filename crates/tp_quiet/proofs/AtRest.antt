@@ -1,4 +1,5 @@
--- In a quiet run without losses and crashes each actor lives, each message was delivered, and nobody has a step to make.
+-- In a quiet run without losses and crashes each actor lives, each message was delivered, and nobody has a step to
+-- make.
 use Rattle.std.proofs.Common.{◌≡◌, ℕ, suc, ◌<◌, ◌≤◌, Bool, inl, inr, true, false, cond, List, [], ◌∷◌, ◌++◌, length, map, Option, Some, None, refl, sym, ap, subst, ◌∙◌, arith}
 use Rattle.std.specs.Prelude.{◌==◌, ◌&&◌, ◌-◌, not, is_none, filter, option_map}
 use Rattle.std.specs.List.{list_any, filter_map, cons_option}
@@ -75,7 +76,8 @@ lines_spare : (s : Site) (plan : List PlanLine) → list_any is_harm plan ≡ fa
 lines_spare s [] h = tt
 lines_spare s (CrashLine site after ∷ plan) h = absurd cc
 lines_spare s (RecoverLine site id after ∷ plan) h =
-    cond_both (same_site site s) (Some (record { after = after; inner = Recover id })) None (λ (o : Option Planned). Each Spares (cons_option o (filter_map (asked_of s) plan)))
+    cond_both (same_site site s) (Some (record { after = after; inner = Recover id })) None
+    (λ (o : Option Planned). Each Spares (cons_option o (filter_map (asked_of s) plan)))
     (λ t. (refl, lines_spare s plan h)) (λ f. lines_spare s plan h)
 lines_spare s (Lose from to n ∷ plan) h = absurd cc
 lines_spare s (Repeat from to n times ∷ plan) h = lines_spare s plan h
@@ -97,7 +99,8 @@ module _ (script : Script) (accepted : IsAccepted script) (harmless : IsHarmless
       of_line : (o : Option Planned) → next_line script older s ≡ o → Spared (if_due (length (entries_of older s)) o)
       of_line None is = tt
       of_line (Some line) is =
-          let spared : Spares line = each_in Spares (plan_of script s) line (plan_spares s) (in_get (plan_of script s) _ line is) in
+          let spared : Spares line = each_in Spares (plan_of script s) line (plan_spares s)
+          (in_get (plan_of script s) _ line is) in
           cond_both _ (Some line.inner) None Spared (λ t. spared) (λ f. tt)
 
   of_name : (older : List Entry) (a : ActorName) → Spared (due_of script older a)
@@ -122,7 +125,12 @@ module _ (script : Script) (accepted : IsAccepted script) (harmless : IsHarmless
   crashed_none : (older : List Entry) → IsHistory script older → (s : Site) → has_crashed older s ≡ false
   crashed_none [] history s = refl
   crashed_none (e ∷ older) history s =
-      grind (arith, line_spares (due_of script older e.actor) e.event (of_name older e.actor) history.1.plan.line, crashed_none older history.0 s)
+      grind (
+        arith,
+        line_spares (due_of script older e.actor) e.event
+            (of_name older e.actor) history.1.plan.line,
+        crashed_none older history.0 s,
+      )
 
   pub live_all : (older : List Entry) → IsHistory script older → (a : ActorName) → is_live older a ≡ true
   live_all older history (Process s) = ap not (crashed_none older history s)
@@ -151,7 +159,8 @@ module _ (script : Script) (accepted : IsAccepted script) (harmless : IsHarmless
   repeats_some from to n (RecoverLine site id after ∷ plan) h = repeats_some from to n plan h.1
   repeats_some from to n (Lose a b k ∷ plan) h = repeats_some from to n plan h.1
   repeats_some from to n (Repeat a b k times ∷ plan) h =
-      cond_both (same_name a from && same_name b to && (k == n)) (Some times) None (λ (o : Option ℕ). Each (λ k. 1 ≤ k) (cons_option o (filter_map (repeated_by from to n) plan)))
+      cond_both (same_name a from && same_name b to && (k == n)) (Some times) None
+      (λ (o : Option ℕ). Each (λ k. 1 ≤ k) (cons_option o (filter_map (repeated_by from to n) plan)))
       (λ t. (omega (arith, h.0), repeats_some from to n plan h.1)) (λ f. repeats_some from to n plan h.1)
   repeats_some from to n (RepeatAll times ∷ plan) h = repeats_some from to n plan h.1
 
@@ -172,10 +181,15 @@ module _ (script : Script) (accepted : IsAccepted script) (harmless : IsHarmless
       let from = p.message.from in
       let to = p.message.to in
       let n = ordinal_of older p in
-      let times : ℕ = first_or (filter_map (repeated_by from to n) script.plan) (first_or (filter_map times_for_all script.plan) 1) in
-      let some : 1 ≤ times = first_some _ _ (repeats_some from to n script.plan accepted.plan) (first_some _ 1 (all_some script.plan accepted.plan) (omega arith)) in
-      let fate : fate_by script.plan from to n ≡ Times times = cond-false (list_any (is_lost_by from to n) script.plan) Lost (Times times) (none_lost from to n script.plan harmless) in
-      let left : times - deliveries older p.entry p.place ≡ 0 = sym (ap (λ (f : Fate). left_by f (deliveries older p.entry p.place) (was_lost older p.entry p.place)) fate) ∙ none in
+      let times : ℕ = first_or (filter_map (repeated_by from to n) script.plan)
+      (first_or (filter_map times_for_all script.plan) 1) in
+      let some : 1 ≤ times = first_some _ _ (repeats_some from to n script.plan accepted.plan)
+      (first_some _ 1 (all_some script.plan accepted.plan) (omega arith)) in
+      let fate : fate_by script.plan from to n ≡ Times times = cond-false
+      (list_any (is_lost_by from to n) script.plan) Lost (Times times) (none_lost from to n script.plan harmless) in
+      let left : times - deliveries older p.entry p.place ≡ 0 = sym
+      (ap (λ (f : Fate). left_by f (deliveries older p.entry p.place) (was_lost older p.entry p.place)) fate)
+      ∙ none in
       omega arith
 
   -- a delivery is an act of the addressee
@@ -195,12 +209,14 @@ module _ (script : Script) (accepted : IsAccepted script) (harmless : IsHarmless
 
   stays_at : (e : Entry) (older : List Entry) (entry place : ℕ) (m : Message)
       → output_at older entry place ≡ Some m → output_at (e ∷ older) entry place ≡ Some m
-  stays_at e older entry place m is = sent_output (e ∷ older) (record { entry = entry; place = place; message = m }) (in_left (sent older) _ _ (output_sent older entry place m is))
+  stays_at e older entry place m is = sent_output (e ∷ older) (record { entry = entry; place = place; message = m })
+      (in_left (sent older) _ _ (output_sent older entry place m is))
 
   acts_stay : (e : Entry) (older : List Entry) (a : ActorName) (act : Act) → IsIn act (acts older a)
       → IsIn act (acts (e ∷ older) a)
   acts_stay e older a act h =
-      cond_both (same_name e.actor a) (with_act (act_of older e.event) (acts older a)) (acts older a) (IsIn act) (λ t. more (act_of older e.event)) (λ f. h)
+      cond_both (same_name e.actor a) (with_act (act_of older e.event) (acts older a)) (acts older a) (IsIn act)
+      (λ t. more (act_of older e.event)) (λ f. h)
     where
       more : (o : Option Act) → IsIn act (with_act o (acts older a))
       more None = h
@@ -224,14 +240,20 @@ module _ (script : Script) (accepted : IsAccepted script) (harmless : IsHarmless
       }
 
       of_test : (b : Bool) → is_delivery_of entry place e.event ≡ b
-          → 0 < length (cond b (e ∷ filter (λ x. is_delivery_of entry place x.event) older) (filter (λ x. is_delivery_of entry place x.event) older)) →
+          → 0 < length (cond b (e ∷ filter (λ x. is_delivery_of entry place x.event) older)
+          (filter (λ x. is_delivery_of entry place x.event) older)) →
           (0 < deliveries older entry place → Taken older entry place) → Taken (e ∷ older) entry place
       of_test true is some rest =
           let event = delivery_is entry place e.event is in
           here (output_at older entry place) refl (subst (MayHappen script older e.actor) event history.1.may) event
       of_test false is some rest =
           let old = rest some in
-          record { m = old.m; at = stays_at e older entry place old.m old.at; took = acts_stay e older old.m.to (Took old.m) old.took }
+          record {
+            m = old.m;
+            at = stays_at e older entry place old.m old.at;
+            took = acts_stay e older old.m.to
+                (Took old.m) old.took;
+          }
 
   -- what was sent is a parcel
 
@@ -242,9 +264,11 @@ module _ (script : Script) (accepted : IsAccepted script) (harmless : IsHarmless
 
   in_numbered : (n k : ℕ) (ms : List Message) (m : Message) → IsIn m ms → InParcel (numbered n k ms) m
   in_numbered n k [] m h = absurd h
-  in_numbered n k (x ∷ ms) m (inl same) = record { parcel = record { entry = n; place = k; message = x }; there = inl refl; is = sym same }
+  in_numbered n k (x ∷ ms) m
+      (inl same) = record { parcel = record { entry = n; place = k; message = x }; there = inl refl; is = sym same }
   in_numbered n k (x ∷ ms) m (inr later) =
-      let rest = in_numbered n (suc k) ms m later in record { parcel = rest.parcel; there = inr rest.there; is = rest.is }
+      let rest = in_numbered n
+      (suc k) ms m later in record { parcel = rest.parcel; there = inr rest.there; is = rest.is }
 
   in_sent : (older : List Entry) (m : Message) → IsSent older m → InParcel (sent older) m
   in_sent [] m h = absurd h
@@ -271,7 +295,8 @@ module _ (script : Script) (accepted : IsAccepted script) (harmless : IsHarmless
       in_left (Sessions ++ Processes) Executors (Process s) (in_right Sessions Processes (Process s)
       (map_in (λ (x : Site). Process x) (sites_of script) s (site_listed script s h)))
   listed (Executor s) h =
-      in_right (Sessions ++ Processes) Executors (Executor s) (map_in (λ (x : Site). Executor x) (sites_of script) s (site_listed script s h))
+      in_right (Sessions ++ Processes) Executors (Executor s)
+      (map_in (λ (x : Site). Executor x) (sites_of script) s (site_listed script s h))
   listed (Session s) h = in_left (Sessions ++ Processes) Executors (Session s) (in_left Sessions Processes (Session s)
       (map_in (λ (n : ℕ). Session (record { 0 = n })) (up_to (length script.homes)) s.0 (session_listed s h)))
     where
@@ -303,7 +328,8 @@ module _ (script : Script) (accepted : IsAccepted script) (harmless : IsHarmless
   parts_of : (older : List Entry) → pending script older ≡ [] → Parts older
   unfolding pending
   parts_of older quiet =
-      let one = append_none (filter_map (due_item script older) (sites_of script) ++ filter_map (parcel_item script older) (sent older)) _ quiet in
+      let one = append_none (filter_map (due_item script older) (sites_of script) ++ filter_map
+      (parcel_item script older) (sent older)) _ quiet in
       let two = append_none (filter_map (due_item script older) (sites_of script)) _ one.0 in
       record { lines = two.0; parcels = two.1; own = one.1 }
 
@@ -315,7 +341,8 @@ module _ (script : Script) (accepted : IsAccepted script) (harmless : IsHarmless
 
       undue : (a : ActorName) → is_known script a ≡ true → is_none (due_of script older a) ≡ true
       undue (Process s) h =
-          ap is_none (inner_none (Process s) (due script older s) (if_true (is_live older (Process s)) _ (live_all older history (Process s))
+          ap is_none (inner_none (Process s) (due script older s)
+          (if_true (is_live older (Process s)) _ (live_all older history (Process s))
           (none_there (due_item script older) (sites_of script) s parts.lines (site_listed script s h))))
       undue (Executor s) h = refl
       undue (Session s) h = refl
@@ -327,13 +354,17 @@ module _ (script : Script) (accepted : IsAccepted script) (harmless : IsHarmless
       took m h =
           let in_it = in_sent older m h in
           let p = in_it.parcel in
-          let known : is_known script p.message.to ≡ true = each_in (λ (q : Parcel). is_known script q.message.to ≡ true) (sent older) p (sent_known script accepted older (free_history script older history)) in_it.there in
+          let known : is_known script p.message.to ≡ true = each_in
+          (λ (q : Parcel). is_known script q.message.to ≡ true) (sent older) p
+          (sent_known script accepted older (free_history script older history)) in_it.there in
           let none = no_less _ _ (none_there (parcel_item script older) (sent older) p parts.parcels in_it.there) in
           let zero : deliveries_left script older p ≡ 0 = grind (arith, none, waits p.message.to known) in
           let t = taken older (free_history script older history) p.entry p.place (was_delivered older p zero) in
-          let same : t.m ≡ m = (let e : Some t.m ≡ Some p.message = sym t.at ∙ sent_output older p in_it.there in let is = in_it.is in cc) in
+          let same : t.m ≡ m = (let e : Some t.m ≡ Some p.message = sym t.at
+          ∙ sent_output older p in_it.there in let is = in_it.is in cc) in
           subst (λ (x : Message). IsIn (Took x) (acts older x.to)) same t.took
 
       still : (a : ActorName) → is_known script a ≡ true → enabled (identity_in script a) (acts older a) ≡ None
       still a h =
-          inner_none a _ (if_true (is_waiting script older a) _ (waits a h) (none_there (own_item script older) (actors_of script) a parts.own (listed a h)))
+          inner_none a _ (if_true (is_waiting script older a) _ (waits a h)
+          (none_there (own_item script older) (actors_of script) a parts.own (listed a h)))

@@ -1,5 +1,5 @@
--- One act brings the clock above a number by no more than it proposes, where the stamps that are taken and kept are at most
--- that number. Used for the room of clocks.
+-- One act brings the clock above a number by no more than it proposes, where the stamps that are taken and kept are at
+-- most that number. Used for the room of clocks.
 use Rattle.std.proofs.Common.{◌≡◌, ℕ, ◌+◌, ◌≤◌, ◌<◌, true, List, [], length, Option, Some, None, is_some, refl, arith}
 use Rattle.std.specs.Prelude.{◌==◌, ◌&&◌, is_none, nat_le, nat_lt}
 use Rattle.std.proofs.lemmas.Bool.{cond_both, lt-ltb}
@@ -99,7 +99,8 @@ module _ (n : ℕ) (s : QuorumRule) (me : Site) (state : ProcessState) (low : st
       cond_both (can_acknowledge s me.partition.0 me.rank.0 (rank_of from) old) (conclude_fast_path s me id new state)
       (state, []) Rises
       (λ y. cond_both (is_full s.shape new)
-      (follow_choice s me id (fast_choice s.shape (present new.acknowledged)) new state) (with_sheet id new state, []) Rises
+      (follow_choice s me id (fast_choice s.shape (present new.acknowledged)) new state)
+      (with_sheet id new state, []) Rises
       (λ full. choice_rises id new (sheets id).known_low
       (with_fit (IfAny (λ (x : ℕ). x ≤ n)) old.acknowledged (rank_of from) (Some t) (sheets id).acknowledged_low le))
       (λ few. (omega (arith, low), omega arith)))
@@ -141,13 +142,15 @@ module _ (n : ℕ) (s : QuorumRule) (me : Site) (state : ProcessState) (low : st
   rec_rises from c b (Some t) = (omega (arith, low), omega arith)
   rec_rises from c b None =
       let old : Sheet = state.sheets c.id in
-      cond_both (nat_lt old.ballot b && nat_lt b STAMP_LIMIT) (answer_recovery s me from c b old state) (state, []) Rises
+      cond_both (nat_lt old.ballot b && nat_lt b STAMP_LIMIT) (answer_recovery s me from c b old state)
+      (state, []) Rises
       (λ y. cond_both (is_untouched old) (propose_and_answer s me from c b (next_stamp 0 state) old state)
       (answer_with_old_proposal me from c b old state) Rises
       (λ first. (omega (arith, low), omega arith)) (λ touched. (omega (arith, low), omega arith)))
       (λ no. stays)
 
-  put_rises : (id : CommandId) (b : ℕ) (o : Option Command) (sheet : Sheet) → Rises (put_recovered s me id b o sheet state)
+  put_rises : (id : CommandId) (b : ℕ) (o : Option Command) (sheet : Sheet)
+      → Rises (put_recovered s me id b o sheet state)
   put_rises id b None sheet = (omega (arith, low), omega arith)
   put_rises id b (Some c) sheet = (omega (arith, low), omega arith)
 
@@ -161,7 +164,8 @@ module _ (n : ℕ) (s : QuorumRule) (me : Site) (state : ProcessState) (low : st
         accepted = a;
       } in
       let new : Sheet = with_answer answer (state.sheets id) in
-      cond_both (can_answer me.partition.0 b (rank_of from) (state.sheets id)) (recovered s me id b new state) (state, []) Rises
+      cond_both (can_answer me.partition.0 b (rank_of from) (state.sheets id)) (recovered s me id b new state)
+      (state, []) Rises
       (λ y. cond_both (is_recovered s.shape new) (put_recovered s me id b new.command new state)
       (with_sheet id new state, []) Rises
       (λ enough. put_rises id b new.command new) (λ few. (omega (arith, low), omega arith)))

@@ -1,5 +1,5 @@
--- Enough votes are a decision, and enough answers to a recovery put a stamp: a process that knows no stamp has too few of
--- each. Each step keeps this.
+-- Enough votes are a decision, and enough answers to a recovery put a stamp: a process that knows no stamp has too few
+-- of each. Each step keeps this.
 -- Used for each process of a run in which nothing is pending.
 use Rattle.std.proofs.Common.{◌≡◌, ◌⊎◌, ℕ, ◌<◌, ◌≤◌, Bool, inl, inr, true, false, cond, List, [], length, Option, Some, None, is_some, refl, sym, ap, subst, arith}
 use Rattle.std.specs.Prelude.{◌&&◌, ◌==◌, is_none, nat_le, nat_lt, not, replicate}
@@ -123,7 +123,8 @@ module _ (s : QuorumRule) (me : Site) where
     | inr stays ↦ inr (inl (omega (arith, same, put, stays.0)))
   ]
   unanswered_onward old new goes same table (inr (inr few)) =
-      inr (inr (subst (λ (xs : List (Option RecoveryAnswer)). length (present xs) < recovery_size s.shape) (sym table) few))
+      inr (inr (subst (λ (xs : List (Option RecoveryAnswer)). length (present xs) < recovery_size s.shape)
+      (sym table) few))
 
   unanswered_kept : {act : Act} {id : CommandId} {old new : Sheet} {out : List Message}
       → SheetStep s me act id old new out → IsActWith IsNoAnswer act → IsShape s.shape → Onward old new
@@ -209,7 +210,8 @@ module _ (s : QuorumRule) (me : Site) where
     by_step act state other genuine facts h id =
         each_sheet (λ out i sheet. IsUndecided s me.partition.0 sheet) s me act state (react s me act state)
         (step_of_act s me act state)
-        (λ i new out change. undecided_kept change other (step_onward s me of here acts sent change genuine (facts i)) (h i))
+        (λ i new out change. undecided_kept change other (step_onward s me of here acts sent change genuine (facts i))
+        (h i))
         (λ out i. h i) id
 
     pub act_undecided : (act : Act) (state : ProcessState) → IsGenuine of act

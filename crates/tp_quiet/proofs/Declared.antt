@@ -1,5 +1,5 @@
--- What an executor declared it told the executors of the other partitions, and what it executed it told the session. Each act
--- keeps this.
+-- What an executor declared it told the executors of the other partitions, and what it executed it told the session.
+-- Each act keeps this.
 -- Used for the executors and sessions in a run in which nothing is pending.
 use Rattle.std.proofs.Common.{◌≡◌, ℕ, inl, inr, true, List, [], ◌∷◌, ◌++◌, Option, Some, None, refl, sym, ap, subst, ◌∙◌}
 use Rattle.std.specs.Prelude.{not}
@@ -36,10 +36,12 @@ use Rattle.tp_quiet.proofs.ExecutorsHear.{KnowsMore, act_grows}
 -- what an executor has sent by its acts
 abbrev pub executor_sent : Shape → Site → List Act → List Message
 executor_sent shape me [] = []
-executor_sent shape me (act ∷ before) = (react shape me act (state_after shape me before)).1 ++ executor_sent shape me before
+executor_sent shape me (act ∷ before) = (react shape me act
+    (state_after shape me before)).1 ++ executor_sent shape me before
 
 -- it was sent
-pub executor_acts_are_sent : (script : Script) (older : List Entry) → IsFreeHistory script older → (k : Site) (n : Message)
+pub executor_acts_are_sent : (script : Script) (older : List Entry) → IsFreeHistory script older
+    → (k : Site) (n : Message)
     → IsIn n (executor_sent script.topology k (acts older (Executor k))) → IsSent older n
 executor_acts_are_sent script [] history k n there = absurd there
 executor_acts_are_sent script (e ∷ older) history k n there =
@@ -117,7 +119,8 @@ module _ (shape : Shape) (me : Site) where
 
   tells_others : (sent : List Message) (c : Committed) (q r : ℕ)
       → IsIn q (others_accessed shape c.command me.partition.0) → IsFrom 1 shape.replicas r
-      → IsIn (message (Executor me) (Executor (site q r)) (MStable c.command.id)) (declarations shape me c.command ++ sent)
+      → IsIn (message (Executor me) (Executor (site q r)) (MStable c.command.id))
+      (declarations shape me c.command ++ sent)
   unfolding declarations
   tells_others sent c q r among range =
       in_left (declarations shape me c.command) sent
@@ -125,7 +128,8 @@ module _ (shape : Shape) (me : Site) where
       (map_in (λ (to : ActorName). message (Executor me) to (MStable c.command.id))
       (flat_map (executors_of shape) (others_accessed shape c.command me.partition.0)) (Executor (site q r))
       (flat_in (executors_of shape) (others_accessed shape c.command me.partition.0) q (Executor (site q r)) among
-      (map_in (λ (rank : ℕ). Executor (site q rank)) (up_to shape.replicas) r (in_up_to shape.replicas r range.0 range.1))))
+      (map_in (λ (rank : ℕ). Executor (site q rank)) (up_to shape.replicas) r
+      (in_up_to shape.replicas r range.0 range.1))))
 
   declare_told : (sent : List Message) (state : ExecutorState) (o : Option Committed) → least (waiting state) ≡ o
       → AreTold sent state → ToldAfter sent (declare_least shape me o state)
@@ -173,7 +177,8 @@ module _ (shape : Shape) (me : Site) where
 
   act_told : (act : Act) (sent : List Message) (state : ExecutorState) → AreTold sent state
       → ToldAfter sent (react shape me act state)
-  act_told (Took m) sent state h = quiet_told sent state (react shape me (Took m) state) (act_grows shape me (Took m) state)
+  act_told (Took m) sent state h = quiet_told sent state (react shape me (Took m) state)
+      (act_grows shape me (Took m) state)
       (message_is_quiet shape me m state) h
   act_told (Did (Declare id)) sent state h = declare_told sent state (least (waiting state)) refl h
   act_told (Did (Execute id)) sent state h = execute_told sent state (least (waiting state)) refl h

@@ -1,5 +1,5 @@
--- Where the commits and payloads of a process go: a payload to its own partition, a commit to the partitions that its command
--- accesses, or to a process of the own partition that asked.
+-- Where the commits and payloads of a process go: a payload to its own partition, a commit to the partitions that its
+-- command accesses, or to a process of the own partition that asked.
 -- Used for what processes take: its command accesses their partition.
 use Rattle.std.proofs.Common.{◌≡◌, ℕ, ◌⊎◌, inl, inr, List, [], ◌∷◌, map, Option, Some, None, refl, sym, subst}
 use Rattle.std.specs.Prelude.{filter, not}
@@ -73,7 +73,8 @@ module _ (s : QuorumRule) (me : Site) where
     abbrev Directed : Message → Type 0
     Directed m = IsDirected acts m
 
-    final_directed : {shape : Shape} {sheet : Sheet} {out : List Message} → IsFinal shape me sheet out → Each Directed out
+    final_directed : {shape : Shape} {sheet : Sheet} {out : List Message} → IsFinal shape me sheet out
+        → Each Directed out
     final_directed untold = tt
     final_directed (final c t e f) = (tt, tt)
 
@@ -82,7 +83,8 @@ module _ (s : QuorumRule) (me : Site) where
 
     asked_directed : (b : ℕ) (o : Option Command) → Each Directed (asked s.shape me b o)
     asked_directed b None = tt
-    asked_directed b (Some c) = each_to Directed (Process me) (processes_of s.shape me.partition.0) (MRec c b) (λ to. tt)
+    asked_directed b (Some c) = each_to Directed (Process me) (processes_of s.shape me.partition.0) (MRec c b)
+        (λ to. tt)
 
     proposals_directed : (c : Command) (t : ℕ) → Each Directed (proposals s me c t)
     unfolding proposals

@@ -23,7 +23,8 @@ pub each_sheet : (P : List Message → CommandId → Sheet → Type 0) (s : Quor
 each_sheet P s me act state moved (changes_sheet {id = i} {new = new} {out = out} clock le step same) change leave id =
     cond_both (same_id i id) new (state.sheets id) (P out id)
     (λ y. subst (λ (x : CommandId). P out x new) (same_id_is i id y) (change i new out step)) (λ n. leave out id)
-each_sheet P s me act state moved (attaches_proposal {id = i} {new = new} {out = out} t made lt step none some) change leave id =
+each_sheet P s me act state moved
+    (attaches_proposal {id = i} {new = new} {out = out} t made lt step none some) change leave id =
     cond_both (same_id i id) new (state.sheets id) (P out id)
     (λ y. subst (λ (x : CommandId). P out x new) (same_id_is i id y) (change i new out step)) (λ n. leave out id)
 each_sheet P s me act state moved does_nothing change leave id = leave [] id

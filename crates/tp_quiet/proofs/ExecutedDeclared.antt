@@ -47,7 +47,8 @@ module _ (script : Script) where
   pub entry_grows : (older : List Entry) (e : Entry) (s : Site)
       → KnowsMore (executor_of script older s) (executor_of script (e ∷ older) s)
   entry_grows older e s =
-      acts_step (λ (list : List Act). KnowsMore (executor_of script older s) (state_after script.topology s list)) older e
+      acts_step (λ (list : List Act). KnowsMore (executor_of script older s)
+      (state_after script.topology s list)) older e
       (Executor s) (knows_itself (executor_of script older s))
       (λ act same is. act_grows script.topology s act (executor_of script older s))
 
@@ -83,11 +84,13 @@ module _ (script : Script) where
     where
       fresh : (old now : List CommandId) → now ≡ old → has same_id id old ≡ false → has same_id id now ≡ true → ⊥
       fresh old now same fails does =
-          absurd (both_ways (has same_id id old) fails (subst (λ (l : List CommandId). has same_id id l ≡ true) same does))
+          absurd (both_ways (has same_id id old) fails
+          (subst (λ (l : List CommandId). has same_id id l ≡ true) same does))
 
       by_kind : EntryKind script older e → has same_id id (executor_of script older s).executed ≡ false
           → WasReady (e ∷ older) s id
-      by_kind (quiet q) new = absurd (fresh (executor_of script older s).executed (executor_of script (e ∷ older) s).executed
+      by_kind (quiet q) new = absurd
+          (fresh (executor_of script older s).executed (executor_of script (e ∷ older) s).executed
           (q.states_stay s).executed new h)
       by_kind (declares d) new = elim (site_cases s d.site) [
         | inl here ↦

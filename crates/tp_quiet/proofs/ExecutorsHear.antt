@@ -1,4 +1,5 @@
--- What an executor took it keeps: promises that were told, commands that are committed, and declarations of other partitions.
+-- What an executor took it keeps: promises that were told, commands that are committed, and declarations of other
+-- partitions.
 -- Used for the executors in a run in which nothing is pending.
 use Rattle.std.proofs.Common.{◌≡◌, Bool, inl, inr, true, false, List, [], ◌∷◌, Option, Some, None, refl, sym, subst}
 use Rattle.std.specs.Prelude.{◌==◌, ◌&&◌, not}
@@ -98,17 +99,20 @@ module _ (shape : Shape) (me : Site) where
   body_heeds from (MPromises lo hi pairs) state =
       cond_both (partition_of from == me.partition.0) _ (state, []) (HeedsAfter from (MPromises lo hi pairs))
       (λ y own. inl refl)
-      (λ n own. absurd (both_ways (partition_of from == me.partition.0) n (eq-eqb (partition_of from) me.partition.0 own)))
+      (λ n own. absurd (both_ways (partition_of from == me.partition.0) n
+      (eq-eqb (partition_of from) me.partition.0 own)))
   body_heeds from (MCommitted c t) state =
       cond_both (has same_id c.id (committed_ids state)) (state, []) _ (HeedsAfter from (MCommitted c t))
       (λ y.
-      let by = in_map (λ (x : Committed). x.key.id) state.committed c.id (has_in same_id same_id_is c.id (committed_ids state) y) in
+      let by = in_map (λ (x : Committed). x.key.id) state.committed c.id
+      (has_in same_id same_id_is c.id (committed_ids state) y) in
       record { committed = by.0; there = by.1; named = sym by.2 })
       (λ n. record { committed = _; there = inl refl; named = refl })
   body_heeds from (MStable id) state =
       cond_both (not (partition_of from == me.partition.0)) _ (state, []) (HeedsAfter from (MStable id))
       (λ y other. inl refl)
-      (λ n other. absurd (other (eqb-true (partition_of from) me.partition.0 (not_not (partition_of from == me.partition.0) n))))
+      (λ n other. absurd (other (eqb-true (partition_of from) me.partition.0
+      (not_not (partition_of from == me.partition.0) n))))
     where
       not_not : (b : Bool) → not b ≡ false → b ≡ true
       not_not true e = refl
@@ -122,7 +126,8 @@ module _ (shape : Shape) (me : Site) where
   message_heeds : (m : Message) (state : ExecutorState) → IsNamed m
       → HeedsAfter m.from m.body (react shape me (Took m) state)
   message_heeds m state named =
-      let names : Bool = same_name m.to (Executor me) && is_name_of shape m.from && is_body_at shape me.partition.0 m.body in
+      let names : Bool = same_name m.to
+      (Executor me) && is_name_of shape m.from && is_body_at shape me.partition.0 m.body in
       cond_both names (on_body me m.from m.body state) (state, []) (HeedsAfter m.from m.body)
       (λ y. body_heeds m.from m.body state) (λ n. absurd (both_ways names n named))
 

@@ -1,5 +1,5 @@
--- Quiet means finished: in a run without losses and crashes that ends with nothing pending, each command of the script is
--- committed and executed at each replica of its partitions, and answered.
+-- Quiet means finished: in a run without losses and crashes that ends with nothing pending, each command of the script
+-- is committed and executed at each replica of its partitions, and answered.
 -- Used for the law of quiet runs.
 use Rattle.std.proofs.Common.{◌≡◌, ℕ, zero, suc, ◌≤◌, true, List, [], None, is_some, length, refl, sym, subst, arith}
 use Rattle.std.specs.Prelude.{reverse}
@@ -63,7 +63,8 @@ module _ (script : Script) (accepted : IsAccepted script) (harmless : IsHarmless
       let as_id = committed_at script older run c ours submitted x at on in
       subst (λ (i : CommandId). has same_id i (executor_of script older x).executed ≡ true) as_id.named
       (all_executed script.topology (sites_of script) (λ y. executor_of script older y)
-      (idle script older run (settled script accepted older free) still) x as_id.committed (site_listed script x at) as_id.there)
+      (idle script older run (settled script accepted older free) still) x as_id.committed
+      (site_listed script x at) as_id.there)
 
   -- its session got the results
   result_taken : (c : Command) → IsIn c script.commands → IsSubmitted older c.id → (p : ℕ)
@@ -92,7 +93,8 @@ module _ (script : Script) (accepted : IsAccepted script) (harmless : IsHarmless
       let was = counted_submitted script s older free (suc k) low high in
       let found = command_numbered script accepted s k (omega (arith, was.0)) in
       let c : Command = found.0 in
-      let named : c.id ≡ record { session = s; number = suc k } = (λ i. record { session = found.2 i; number = found.3 i }) in
+      let named : c.id
+      ≡ record { session = s; number = suc k } = (λ i. record { session = found.2 i; number = found.3 i }) in
       subst (λ (id : CommandId). is_some (reply_to script older id) ≡ true) named
       (answered_if c found.1 (subst (IsSubmitted older) (sym named) was.1))
 
@@ -100,7 +102,8 @@ module _ (script : Script) (accepted : IsAccepted script) (harmless : IsHarmless
   all_submitted : (c : Command) → IsIn c script.commands → IsSubmitted older c.id
   all_submitted c ours =
       let s : SessionId = c.id.session in
-      let of : IsCommandOf script.homes c = each_in (IsCommandOf script.homes) script.commands c accepted.commands ours in
+      let of : IsCommandOf script.homes c = each_in
+      (IsCommandOf script.homes) script.commands c accepted.commands ours in
       let known : is_known script (Session s) ≡ true = is_between-from s.0 (length script.homes) of.1 in
       let number = number_within script accepted older free c ours in
       let all = all_submitted_by script accepted older free s (counted_answered s) (still (Session s) known) in
@@ -114,7 +117,8 @@ module _ (script : Script) (accepted : IsAccepted script) (harmless : IsHarmless
             let by = committed_by script older run c ours submitted (site p k) at on in (
               by.final,
               sent_commit_of script older
-                  (message (Process (site p k)) (Executor (site p k)) (MCommitted c (stamp by.final))) (site p k) c (stamp by.final)
+                  (message (Process (site p k)) (Executor (site p k)) (MCommitted c (stamp by.final))) (site p k) c
+                  (stamp by.final)
                   free by.sent refl refl,
             );
         executed = λ p k on at.

@@ -1,5 +1,5 @@
--- Where each message was taken and nobody has a step to make, the executors are idle: what is committed anywhere is committed
--- at each site of its partitions with one key, and is stable there; what was declared was heard.
+-- Where each message was taken and nobody has a step to make, the executors are idle: what is committed anywhere is
+-- committed at each site of its partitions with one key, and is stable there; what was declared was heard.
 -- Used for what is executed in a run in which nothing is pending.
 use Rattle.std.proofs.Common.{◌≡◌, ◌≢◌, ℕ, ◌≤◌, Bool, inl, inr, true, false, cond, List, [], ◌∷◌, Option, Some, None, is_some, refl, sym, ap, subst, ◌∙◌, arith}
 use Rattle.std.specs.Prelude.{◌==◌, ◌&&◌, is_none, nat_lt, not}
@@ -80,7 +80,8 @@ any_there test (y ∷ ys) x (inr later) passes =
     or_right (test y) (list_any test ys) (any_there test ys x later passes)
 
 -- a process with no step to make has told all its promises
-told_all : (state : ProcessState) → cond (nat_lt state.told state.clock) (Some Announce) None ≡ None → state.clock ≤ state.told
+told_all : (state : ProcessState) → cond (nat_lt state.told state.clock) (Some Announce) None ≡ None
+    → state.clock ≤ state.told
 told_all state still = by_test (nat_lt state.told state.clock) refl still
   where
     by_test : (b : Bool) → nat_lt state.told state.clock ≡ b → cond b (Some Announce) None ≡ None
@@ -109,7 +110,8 @@ module _ (script : Script) (older : List Entry) (run : IsTakenIn script older) (
       let state = executor_of script older x in
       let own = each_in (λ (d : Committed). IsOf script d.command × (d.key.id ≡ d.command.id)) state.committed c
       (committed_provenance script older run.history x) there in
-      let submitted = each_in (λ (d : Committed). IsSubmitted older d.command.id × (d.key.id ≡ d.command.id)) state.committed c
+      let submitted = each_in (λ (d : Committed). IsSubmitted older d.command.id
+      × (d.key.id ≡ d.command.id)) state.committed c
       (committed_submitted script run.accepted older run.history x) there in
       let told = each_in (CommittedMessage (IsSent older) script.topology x) state.committed c
       (knows script run.accepted older run.history settled older run.history (λ m s. s) x).committed there in
@@ -118,7 +120,8 @@ module _ (script : Script) (older : List Entry) (run : IsTakenIn script older) (
         submitted = submitted.0;
         own = own.1;
         accesses = told.accesses;
-        key = (committed_is_due script run.accepted older run.history settled older run.history (λ m s. s) x c there).key;
+        key = (committed_is_due script run.accepted older run.history settled older run.history
+            (λ m s. s) x c there).key;
       }
 
   -- its stamp is that of each commit of the command
@@ -172,7 +175,8 @@ module _ (script : Script) (older : List Entry) (run : IsTakenIn script older) (
       run_holds script of run.accepted (command_in_names script run.accepted) older run.history j at_j in
       let proposed : is_none (state.sheets id).proposal ≡ false =
       subst (λ (i : CommandId). is_none (state.sheets i).proposal ≡ false) pair.2
-      (each_in (λ (q : Pair). is_none (state.sheets q.id).proposal ≡ false) state.attached pair.0 whole.proposed pair.1) in
+      (each_in (λ (q : Pair). is_none
+      (state.sheets q.id).proposal ≡ false) state.attached pair.0 whole.proposed pair.1) in
       let kept = (all_standing rule j of (run.here j at_j) run.accepted.shape (acts older (Process j))
       (run.genuine j at_j) id).kept proposed in
       by_command (state.sheets id).command kept (whole.sheets id).command (facts.sheets id).command
@@ -239,7 +243,8 @@ module _ (script : Script) (older : List Entry) (run : IsTakenIn script older) (
       subst (λ (d : Command). is_undeclared (executor_of script older x) c.key.id
       (others_accessed script.topology d x.partition.0) ≡ false) same was.declared
 
-  heard_here : (x y : Site) → is_site_of script.topology x ≡ true → is_site_of script.topology y ≡ true → (c : Committed)
+  heard_here : (x y : Site) → is_site_of script.topology x ≡ true → is_site_of script.topology y ≡ true
+      → (c : Committed)
       → IsIn c (executor_of script older x).committed
       → IsIn y.partition.0 (others_accessed script.topology c.command x.partition.0)
       → has same_id c.key.id (executor_of script older y).declared ≡ true
@@ -251,7 +256,8 @@ module _ (script : Script) (older : List Entry) (run : IsTakenIn script older) (
       let its = committed_here y told.committed told.there in
       let same : told.committed.command ≡ c.command =
       one_command told.committed.command c.command its.ours here.ours (told.named ∙ here.own) in
-      let parts = filter_in (λ (z : ℕ). not (z == x.partition.0)) (accessed script.topology c.command) y.partition.0 other in
+      let parts = filter_in (λ (z : ℕ). not (z == x.partition.0))
+      (accessed script.topology c.command) y.partition.0 other in
       let apart : x.partition.0 ≢ y.partition.0 = (λ e. differ x.partition.0 y.partition.0 e parts.1) in
       let back : IsIn x.partition.0 (others_accessed script.topology told.committed.command y.partition.0) =
       subst (λ (d : Command). IsIn x.partition.0 (others_accessed script.topology d y.partition.0)) (sym same)
@@ -302,7 +308,8 @@ module _ (script : Script) (older : List Entry) (run : IsTakenIn script older) (
         one_command d.command c.command b.ours a.ours (sym b.own ∙ ap (λ (k : Key). k.id) same ∙ a.own);
     declared = λ x c site there executed. declared_here x c there executed;
     heard = λ x y c site_x site_y there other declared.
-        heard_here x y (listed_is script run.accepted x site_x) (listed_is script run.accepted y site_y) c there other declared;
+        heard_here x y (listed_is script run.accepted x site_x)
+        (listed_is script run.accepted y site_y) c there other declared;
     places = λ c q among. listed_place c q among;
   }
     where

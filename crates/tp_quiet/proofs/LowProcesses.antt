@@ -1,4 +1,5 @@
--- Stamps that a process keeps and sends are at most a number, where those that it takes are, and its clock after the step.
+-- Stamps that a process keeps and sends are at most a number, where those that it takes are, and its clock after the
+-- step.
 -- Used for the room of clocks.
 use Rattle.std.proofs.Common.{ℕ, ◌≤◌, Option, Some, None, sym, subst, arith}
 use Rattle.std.proofs.lemmas.Bool.{cond_both}
@@ -43,7 +44,8 @@ module _ (n m : ℕ) (le : n ≤ m) where
   answers_more None h = tt
   answers_more (Some a) h = omega (arith, le, h)
 
-  proposal_more : (o : Option Proposed) → IfAny (λ (q : Proposed). q.stamp ≤ n) o → IfAny (λ (q : Proposed). q.stamp ≤ m) o
+  proposal_more : (o : Option Proposed) → IfAny (λ (q : Proposed). q.stamp ≤ n) o
+      → IfAny (λ (q : Proposed). q.stamp ≤ m) o
   proposal_more None h = tt
   proposal_more (Some q) h = omega (arith, le, h)
 
@@ -53,7 +55,8 @@ module _ (n m : ℕ) (le : n ≤ m) where
     putting_low = omega (arith, le, h.putting_low);
     known_low = each_weaker (IfAny (λ (t : ℕ). t ≤ n)) (IfAny (λ (t : ℕ). t ≤ m)) table_more sheet.known h.known_low;
     acknowledged_low =
-        each_weaker (IfAny (λ (t : ℕ). t ≤ n)) (IfAny (λ (t : ℕ). t ≤ m)) table_more sheet.acknowledged h.acknowledged_low;
+        each_weaker (IfAny (λ (t : ℕ). t ≤ n))
+        (IfAny (λ (t : ℕ). t ≤ m)) table_more sheet.acknowledged h.acknowledged_low;
     answers_low = each_weaker (IfAny (IsLowAnswer n)) (IfAny (IsLowAnswer m)) answers_more sheet.answers h.answers_low;
   }
 
@@ -106,7 +109,8 @@ module _ (m : ℕ) where
     announced_low state = each_to Low (Process me) (executors_of s.shape me.partition.0)
         (MPromises state.told state.clock (untold state)) (λ to. tt)
 
-    pub low_state : {act : Act} {state : ProcessState} {moved : Step} → ProcessStep s me act state moved → IsLowAct m act
+    pub low_state : {act : Act} {state : ProcessState} {moved : Step} → ProcessStep s me act state moved
+        → IsLowAct m act
         → moved.0.clock ≤ m → IsLowState m state → IsLowState m moved.0 × Each Low moved.1
     low_state does_nothing took high h = (h, tt)
     low_state (bumps_clock clock le) took high h =
@@ -126,7 +130,8 @@ module _ (m : ℕ) where
           record {
             clock = high;
             proposals = λ other. cond_both (same_id i other) new (state.sheets other)
-                (λ (sheet : Sheet). IfAny (λ (q : Proposed). q.stamp ≤ m) sheet.proposal) (λ y. proposal) (λ no. h.proposals other);
+                (λ (sheet : Sheet). IfAny (λ (q : Proposed). q.stamp ≤ m) sheet.proposal) (λ y. proposal)
+                (λ no. h.proposals other);
             sheets = λ other. cond_both (same_id i other) new (state.sheets other) (IsLowSheet m) (λ y. kept)
                 (λ no. h.sheets other);
           },
@@ -139,7 +144,8 @@ module _ (m : ℕ) where
           record {
             clock = high;
             proposals = λ other. cond_both (same_id i other) new (state.sheets other)
-                (λ (sheet : Sheet). IfAny (λ (q : Proposed). q.stamp ≤ m) sheet.proposal) (λ y. proposal) (λ no. h.proposals other);
+                (λ (sheet : Sheet). IfAny (λ (q : Proposed). q.stamp ≤ m) sheet.proposal) (λ y. proposal)
+                (λ no. h.proposals other);
             sheets = λ other. cond_both (same_id i other) new (state.sheets other) (IsLowSheet m) (λ y. kept)
                 (λ no. h.sheets other);
           },

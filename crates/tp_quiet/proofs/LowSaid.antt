@@ -35,7 +35,8 @@ module _ (n : ℕ) (s : QuorumRule) (me : Site) where
   final_stamp_low shape sheet c t known is =
       let stamps : List (Option ℕ) = stamps_of shape sheet c in
       let each_one : Each (IfAny IsLow) stamps = each_image (IfAny IsLow) (stamp_of sheet) (accessed shape c)
-      (each_of_all (λ q. IfAny IsLow (stamp_of sheet q)) (accessed shape c) (λ q. kept_fit IsLow sheet.known q known)) in
+      (each_of_all (λ q. IfAny IsLow (stamp_of sheet q)) (accessed shape c)
+      (λ q. kept_fit IsLow sheet.known q known)) in
       subst (IfAny IsLow) is
       (cond_both (list_all is_some stamps) (Some (greatest (present stamps))) None (IfAny IsLow)
       (λ y. greatest_low n (present stamps) (present_fit IsLow stamps each_one)) (λ n. tt))
@@ -88,6 +89,7 @@ module _ (n : ℕ) (s : QuorumRule) (me : Site) where
       (told_low new k.accepted_low proposal, tt)
   low_said {old = old} (puts_recovered {m} id t made a b c e can is enough) proposal h k =
       let chosen : ℕ = chosen_stamp s c (with_recovery_answer m t made a old) in
-      each_to Low (Process me) (processes_of s.shape me.partition.0) (MConsensus c (stamp chosen) b) (λ to. k.putting_low)
+      each_to Low (Process me) (processes_of s.shape me.partition.0) (MConsensus c (stamp chosen) b)
+      (λ to. k.putting_low)
   low_said (starts_recovery id is none) proposal h k = asked_low _ _
   low_said _ proposal h k = tt

@@ -37,7 +37,8 @@ module _ (n : ℕ) where
   IsLowAct (Took m) = IsLowBody m.body
   IsLowAct (Did inner) = Unit {0}
 
-  pub record IsLow (accepted putting : ℕ) (known acknowledged : List (Option ℕ)) (table : List (Option RecoveryAnswer)) : Type 0 where
+  pub record IsLow (accepted putting : ℕ) (known acknowledged : List (Option ℕ))
+      (table : List (Option RecoveryAnswer)) : Type 0 where
     pub accepted_low : accepted ≤ n
     pub putting_low : putting ≤ n
     pub known_low : Each (IfAny (λ t. t ≤ n)) known
@@ -59,7 +60,8 @@ module _ (n : ℕ) where
   proposals_low : (in_quorum : ℕ → Bool) (home : ℕ) (xs : List RecoveryAnswer) → Each IsLowAnswer xs
       → chosen_of_proposals in_quorum home xs ≤ n
   proposals_low in_quorum home xs h =
-      cond_both (list_any (tells_slow in_quorum home) xs) (greatest_by (λ a. a.stamp.0) xs) (greatest_by (member_stamp in_quorum) xs) (λ (t : ℕ). t ≤ n)
+      cond_both (list_any (tells_slow in_quorum home) xs) (greatest_by (λ a. a.stamp.0) xs)
+      (greatest_by (member_stamp in_quorum) xs) (λ (t : ℕ). t ≤ n)
       (λ t. by_low (λ a. a.stamp.0) xs (λ a low. low) h)
       (λ f. by_low (member_stamp in_quorum) xs (λ a low. cond_both (in_quorum a.rank.0) a.stamp.0 0 (λ
       (t : ℕ). t ≤ n) (λ t. low) (λ f. omega arith)) h)
@@ -75,7 +77,8 @@ module _ (n : ℕ) where
       → Each IsLowAnswer xs → IfAny IsLowAnswer o → chosen_with in_quorum home xs o ≤ n
   with_low in_quorum home xs None h k = proposals_low in_quorum home xs h
   with_low in_quorum home xs (Some best) h k =
-      cond_both (nat_lt 0 best.accepted) best.stamp.0 (chosen_of_proposals in_quorum home xs) (λ (t : ℕ). t ≤ n) (λ t. k) (λ f. proposals_low in_quorum home xs h)
+      cond_both (nat_lt 0 best.accepted) best.stamp.0 (chosen_of_proposals in_quorum home xs) (λ (t : ℕ). t ≤ n)
+      (λ t. k) (λ f. proposals_low in_quorum home xs h)
 
   choice_low : (in_quorum : ℕ → Bool) (home : ℕ) (xs : List RecoveryAnswer) → Each IsLowAnswer xs
       → recovery_choice in_quorum home xs ≤ n
@@ -104,19 +107,34 @@ module _ (n : ℕ) where
         with_fit (IfAny (λ (t : ℕ). t ≤ n)) old.acknowledged _ (Some t) h.acknowledged_low (took_low m _ e took);
   }
   low_kept {old = old} (decides_fast {m} id t e can full fast last) took proposal h =
-      let table = with_fit (IfAny (λ (t : ℕ). t ≤ n)) old.acknowledged _ (Some t) h.acknowledged_low (took_low m _ e took) in
+      let table = with_fit (IfAny (λ (t : ℕ). t ≤ n)) old.acknowledged _ (Some t) h.acknowledged_low
+      (took_low m _ e took) in
       record {
         accepted_low = h.accepted_low;
         putting_low = h.putting_low;
         answers_low = h.answers_low;
         acknowledged_low = table;
         known_low =
-            with_fit (IfAny (λ (t : ℕ). t ≤ n)) old.known _ (Some _) h.known_low (greatest_low _ (present_fit (λ (t : ℕ). t ≤ n) _ table));
+            with_fit (IfAny (λ (t : ℕ). t ≤ n)) old.known _ (Some _) h.known_low
+            (greatest_low _ (present_fit (λ (t : ℕ). t ≤ n) _ table));
       }
   low_kept {old = old} (puts_slow {m} id t e can full slow) took proposal h =
-      let table = with_fit (IfAny (λ (t : ℕ). t ≤ n)) old.acknowledged _ (Some t) h.acknowledged_low (took_low m _ e took) in
-      record { accepted_low = h.accepted_low; known_low = h.known_low; answers_low = h.answers_low; acknowledged_low = table; putting_low = greatest_low _ (present_fit (λ (t : ℕ). t ≤ n) _ table) }
-  low_kept (accepts {m} c t b e none le) took proposal h = record { accepted_low = took_low m _ e took; putting_low = h.putting_low; known_low = h.known_low; answers_low = h.answers_low; acknowledged_low = h.acknowledged_low }
+      let table = with_fit (IfAny (λ (t : ℕ). t ≤ n)) old.acknowledged _ (Some t) h.acknowledged_low
+      (took_low m _ e took) in
+      record {
+        accepted_low = h.accepted_low;
+        known_low = h.known_low;
+        answers_low = h.answers_low;
+        acknowledged_low = table;
+        putting_low = greatest_low _ (present_fit (λ (t : ℕ). t ≤ n) _ table);
+      }
+  low_kept (accepts {m} c t b e none le) took proposal h = record {
+    accepted_low = took_low m _ e took;
+    putting_low = h.putting_low;
+    known_low = h.known_low;
+    answers_low = h.answers_low;
+    acknowledged_low = h.acknowledged_low;
+  }
   low_kept (decides_by_votes old id put e none enough last) took proposal h = record {
     accepted_low = h.accepted_low;
     putting_low = h.putting_low;
@@ -140,11 +158,28 @@ module _ (n : ℕ) where
   }
   low_kept {s = s} {old = old} (puts_recovered {m} id t made a b c e can is enough) took proposal h =
       let table = with_fit (IfAny IsLowAnswer) old.answers _ (Some _) h.answers_low (took_low m _ e took) in
-      record { accepted_low = h.accepted_low; known_low = h.known_low; acknowledged_low = h.acknowledged_low; answers_low = table; putting_low = choice_low (s.in_quorum c) c.home.0 _ (present_fit IsLowAnswer _ table) }
-  low_kept {s =
-      s} (starts_recovery id some none) took proposal h = record { accepted_low = h.accepted_low; putting_low = h.putting_low; known_low = h.known_low; acknowledged_low = h.acknowledged_low; answers_low = no_answers s.shape.replicas }
+      record {
+        accepted_low = h.accepted_low;
+        known_low = h.known_low;
+        acknowledged_low = h.acknowledged_low;
+        answers_low = table;
+        putting_low = choice_low (s.in_quorum c) c.home.0 _ (present_fit IsLowAnswer _ table);
+      }
+  low_kept {s = s} (starts_recovery id some none) took proposal h = record {
+    accepted_low = h.accepted_low;
+    putting_low = h.putting_low;
+    known_low = h.known_low;
+    acknowledged_low = h.acknowledged_low;
+    answers_low = no_answers s.shape.replicas;
+  }
     where
       no_answers : (k : ℕ) → Each (IfAny IsLowAnswer) (replicate k None)
       no_answers zero = tt
       no_answers (suc k) = (tt, no_answers k)
-  low_kept _ took proposal h = record { accepted_low = h.accepted_low; putting_low = h.putting_low; known_low = h.known_low; acknowledged_low = h.acknowledged_low; answers_low = h.answers_low }
+  low_kept _ took proposal h = record {
+    accepted_low = h.accepted_low;
+    putting_low = h.putting_low;
+    known_low = h.known_low;
+    acknowledged_low = h.acknowledged_low;
+    answers_low = h.answers_low;
+  }

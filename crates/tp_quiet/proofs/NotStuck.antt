@@ -1,5 +1,5 @@
--- In a partition where nothing is under way some process knows the stamp: else the greatest ballot that was asked or put
--- would have all votes.
+-- In a partition where nothing is under way some process knows the stamp: else the greatest ballot that was asked or
+-- put would have all votes.
 use Rattle.std.proofs.Common.{◌≡◌, ◌⊎◌, ℕ, zero, suc, ◌+◌, ◌<◌, ◌≤◌, Bool, inl, inr, true, false, cond, List, [], ◌∷◌, length, max, Option, Some, None, is_some, refl, sym, ap, subst, ◌∙◌, arith}
 use Rattle.std.specs.Prelude.{◌-◌, nat_le}
 use Rattle.std.proofs.lemmas.Bool.{cases_Bool, cases_eq, cases_lt, leb-true, leb-false}

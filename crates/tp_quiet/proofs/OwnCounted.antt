@@ -86,7 +86,8 @@ module _ (s : QuorumRule) (me : Site) (of : CommandId → Command) where
       (λ y. cond_both (same_id c.id other) (acknowledged_own s me.partition.0 me.rank.0 t new) (state.sheets other)
       (IsOwnCounted other)
       (λ same. subst
-      (λ (i : CommandId). IsOwnCounted i (acknowledged_own s me.partition.0 me.rank.0 t new)) (same_id_is c.id other same)
+      (λ (i : CommandId). IsOwnCounted i (acknowledged_own s me.partition.0 me.rank.0 t new))
+      (same_id_is c.id other same)
       (λ home member made. cond_both (can_acknowledge s me.partition.0 me.rank.0 me.rank.0 new)
       (acknowledged me.rank.0 t new) new (IsAcknowledged s me of (Process me))
       (λ can. inr (inr (inr (ap (λ (o : Option ℕ). is_some o) (kept_here old.acknowledged me.rank.0 t low high)))))
@@ -98,16 +99,19 @@ module _ (s : QuorumRule) (me : Site) (of : CommandId → Command) where
       kept_is : (o : Option Command) → KeepsCommand of c.id o → (state.sheets c.id).command ≡ o
           → command_or c (state.sheets c.id) ≡ of c.id
       kept_is None keeps is =
-          subst (λ (o : Option Command). command_or c (record (state.sheets c.id) { command = o }) ≡ of c.id) (sym is) ours
+          subst (λ (o : Option Command). command_or c (record (state.sheets c.id) { command = o }) ≡ of c.id)
+          (sym is) ours
       kept_is (Some d) keeps is =
-          subst (λ (o : Option Command). command_or c (record (state.sheets c.id) { command = o }) ≡ of c.id) (sym is) keeps.0
+          subst (λ (o : Option Command). command_or c (record (state.sheets c.id) { command = o }) ≡ of c.id)
+          (sym is) keeps.0
 
       refused : (t : ℕ) → (of c.id).home.0 ≡ me.rank.0 → s.in_quorum (of c.id) me.rank.0 ≡ true
           → is_fresh me.partition.0 (state.sheets c.id) ≡ true
           → (put : Option PutStamp) → (state.sheets c.id).put ≡ put
           → (is_some (kept_at (state.sheets c.id).acknowledged me.rank.0) ≡ true)
           ⊎ (is_some (kept_at (state.sheets c.id).acknowledged me.rank.0) ≡ false)
-          → can_acknowledge s me.partition.0 me.rank.0 me.rank.0 (with_proposal t Proposal (with_command c (state.sheets c.id))) ≡ false
+          → can_acknowledge s me.partition.0 me.rank.0 me.rank.0
+          (with_proposal t Proposal (with_command c (state.sheets c.id))) ≡ false
           → IsAcknowledged s me of (Process me) (with_proposal t Proposal (with_command c (state.sheets c.id)))
       refused t home member fresh put has (inl there) cannot = inr (inr (inr there))
       refused t home member fresh (Some put) has (inr absent) cannot =
@@ -139,7 +143,8 @@ module _ (s : QuorumRule) (me : Site) (of : CommandId → Command) where
         → IsOwnCounted id ((state_after s me (act ∷ before)).sheets id)
     own_by_step act before other genuine another facts h id =
         let state = state_after s me before in
-        each_sheet (λ out i sheet. IsOwnCounted i sheet) s me act state (react s me act state) (step_of_act s me act state)
+        each_sheet (λ out i sheet. IsOwnCounted i sheet) s me act state (react s me act state)
+        (step_of_act s me act state)
         (λ i new out change. own_kept change genuine other another
         (step_onward s me of here before (sent_by s me before) change genuine (facts.sheets i)) (h i)) (λ out i. h i) id
 
@@ -147,7 +152,8 @@ module _ (s : QuorumRule) (me : Site) (of : CommandId → Command) where
         → ProcessFacts s me of before (sent_by s me before) (state_after s me before)
         → ((i : CommandId) → IsOwnCounted i ((state_after s me before).sheets i)) → (id : CommandId)
         → IsOwnCounted id ((state_after s me (act ∷ before)).sheets id)
-    own_by_act (Did inner) before genuine another facts h id = own_by_step (Did inner) before tt genuine another facts h id
+    own_by_act (Did inner) before genuine another facts h id = own_by_step
+        (Did inner) before tt genuine another facts h id
     own_by_act (Took m) before genuine another facts h id = by_body m.body refl
       where
         by_body : (body : Body) → m.body ≡ body → IsOwnCounted id ((state_after s me (Took m ∷ before)).sheets id)

@@ -1,5 +1,5 @@
--- A proposal of a home was sent to the other members of the fast quorum and counted as its own acknowledgement, one of a
--- member answers the home's, and one made by a recovery joined its ballot. Each step keeps this.
+-- A proposal of a home was sent to the other members of the fast quorum and counted as its own acknowledgement, one of
+-- a member answers the home's, and one made by a recovery joined its ballot. Each step keeps this.
 -- Used for each process of a run in which nothing is pending.
 use Rattle.std.proofs.Common.{◌≡◌, ◌≢◌, ◌⊎◌, ℕ, ◌<◌, ◌≤◌, Bool, inl, inr, true, false, cond, List, ◌∷◌, ◌++◌, Option, Some, None, refl, sym, subst, arith}
 use Rattle.std.specs.Prelude.{◌==◌, filter, not}
@@ -78,7 +78,8 @@ module _ (s : QuorumRule) (me : Site) (of : CommandId → Command) where
   proposal_to_members c t more j range other member = (
     t,
     in_left (proposals s me c t) more _
-        (subst (λ (body : Body). IsIn (message (Process me) (Process (site me.partition.0 j)) body) (proposals s me c t))
+        (subst (λ (body : Body). IsIn (message (Process me) (Process (site me.partition.0 j)) body)
+        (proposals s me c t))
         (cond-true (s.in_quorum c j) (MPropose c (stamp t)) (MPayload c) member)
         (map_in
         (λ (rank : ℕ). message (Process me) (Process (site me.partition.0 rank))
@@ -98,7 +99,8 @@ module _ (s : QuorumRule) (me : Site) (of : CommandId → Command) where
   submitted_to_members : (c d : Command) (t : ℕ) (bumped sent : List Message) → c ≡ d
       → ToMembers ((proposals s me c t ++ bumped) ++ sent) d
   submitted_to_members c d t bumped sent same j range other member =
-      let x = proposal_to_members c t bumped j range other (subst (λ (e : Command). s.in_quorum e j ≡ true) (sym same) member) in (
+      let x = proposal_to_members c t bumped j range other
+      (subst (λ (e : Command). s.in_quorum e j ≡ true) (sym same) member) in (
         x.0,
         in_left (proposals s me c t ++ bumped) sent _
             (subst
@@ -108,7 +110,8 @@ module _ (s : QuorumRule) (me : Site) (of : CommandId → Command) where
 
   acknowledges_home : (m : Message) (acts : List Act) (sent rest : List Message) (c : Command) (floor t : ℕ)
       → m.body ≡ MPropose c (stamp floor) → c ≡ of c.id
-      → HasAcknowledged me (Took m ∷ acts) (message (Process me) m.from (MProposeAck c.id (stamp t)) ∷ rest ++ sent) (of c.id)
+      → HasAcknowledged me (Took m ∷ acts) (message (Process me) m.from (MProposeAck c.id (stamp t)) ∷ rest ++ sent)
+      (of c.id)
   acknowledges_home m acts sent rest c floor t e ours =
       subst
       (λ (d : Command). HasAcknowledged me (Took m ∷ acts)

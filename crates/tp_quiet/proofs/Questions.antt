@@ -1,5 +1,5 @@
--- No process proposes to itself, each question of a recovery names a ballot that its sender tried, and each commit tells of a
--- partition whose stamp its sender knows.
+-- No process proposes to itself, each question of a recovery names a ballot that its sender tried, and each commit
+-- tells of a partition whose stamp its sender knows.
 -- Used for each message of a run: when it is taken, it is to what was asked.
 use Rattle.std.proofs.Common.{◌≡◌, ℕ, ◌≤◌, Bool, inl, inr, true, cond, List, [], ◌∷◌, length, map, Option, Some, None, is_some, sym, ap, subst, ◌∙◌, arith}
 use Rattle.std.specs.Prelude.{◌==◌, filter, not}
@@ -109,30 +109,36 @@ module _ (s : QuorumRule) (me : Site) (of : CommandId → Command) where
         (cond (s.in_quorum c rank) (MPropose c (stamp t)) (MPayload c)))
         (λ rank. not (rank == me.rank.0)) (up_to s.shape.replicas)
         (λ rank other. cond_both (s.in_quorum c rank) (MPropose c (stamp t)) (MPayload c)
-        (λ (body : Body). IsFair me sheets (Process (site me.partition.0 rank)) body) (λ y. other_rank rank other) (λ n. tt))
+        (λ (body : Body). IsFair me sheets (Process (site me.partition.0 rank)) body) (λ y. other_rank rank other)
+        (λ n. tt))
 
     known_now : {id : CommandId} {new : Sheet} {t : ℕ} → sheets id ≡ new → stamp_of new me.partition.0 ≡ Some t
         → Knows me.partition.0 (sheets id)
     known_now at is = ap (λ (x : Sheet). is_some (stamp_of x me.partition.0)) at ∙ ap (λ (o : Option ℕ). is_some o) is
 
     sheet_step_fair : {act : Act} {id : CommandId} {old new : Sheet} {out : List Message}
-        → SheetStep s me act id old new out → KeepsCommand of id old.command → IsFrom 1 (length old.known) me.partition.0
+        → SheetStep s me act id old new out → KeepsCommand of id old.command
+        → IsFrom 1 (length old.known) me.partition.0
         → sheets id ≡ new → Each Fair out
-    sheet_step_fair (submits c t e home fresh) keeps place at = each_append Fair _ _ (proposals_fair c t) (bumps_fair _ t)
+    sheet_step_fair (submits c t e home fresh) keeps place at = each_append Fair _ _ (proposals_fair c t)
+        (bumps_fair _ t)
     sheet_step_fair (submits_and_acknowledges c t e home fresh can) keeps place at =
         each_append Fair _ _ (proposals_fair c t) (bumps_fair _ t)
     sheet_step_fair (proposes c floor t e le fresh) keeps place at = (tt, bumps_fair _ t)
     sheet_step_fair {old = old} (decides_fast id t e can full fast last) keeps place at =
-        each_append Fair _ _ (commits_fair id old.command _ keeps (known_now at (kept_here old.known me.partition.0 _ place.0 place.1)))
+        each_append Fair _ _ (commits_fair id old.command _ keeps
+        (known_now at (kept_here old.known me.partition.0 _ place.0 place.1)))
         (final_fair last)
     sheet_step_fair (puts_slow id t e can full slow) keeps place at =
         put_to_vote_sends Fair me s.shape _ _ _ (λ c to is. tt)
     sheet_step_fair (accepts c t b e none le) keeps place at = (tt, tt)
     sheet_step_fair (decides_by_votes base id put e none enough last) keeps place at =
-        each_append Fair _ _ (commits_fair id base.command _ keeps (known_now at (kept_here base.known me.partition.0 _ place.0 place.1)))
+        each_append Fair _ _ (commits_fair id base.command _ keeps
+        (known_now at (kept_here base.known me.partition.0 _ place.0 place.1)))
         (final_fair last)
     sheet_step_fair (learns c q t e none last) keeps place at = final_fair last
-    sheet_step_fair (proposes_and_answers_recovery c b t e none low nothing unjoined) keeps place at = (tt, bumps_fair _ t)
+    sheet_step_fair
+        (proposes_and_answers_recovery c b t e none low nothing unjoined) keeps place at = (tt, bumps_fair _ t)
     sheet_step_fair (answers_recovery c b e none low first) keeps place at = (tt, tt)
     sheet_step_fair {old = old} (puts_recovered {m} id t made a b c e can is enough) keeps place at =
         let chosen : ℕ = chosen_stamp s c (with_recovery_answer m t made a old) in
@@ -166,7 +172,8 @@ module _ (s : QuorumRule) (me : Site) (of : CommandId → Command) where
   all_fair here (act ∷ before) genuine =
       let state = state_after s me before in
       let facts = facts_hold s me of here before genuine.1 in
-      let goes = act_onward s me of here before (sent_by s me before) (step_of_act s me act state) genuine.0 facts.sheets in
+      let goes = act_onward s me of here before (sent_by s me before)
+      (step_of_act s me act state) genuine.0 facts.sheets in
       each_append (AsksFairly me (react s me act state).0.sheets) (react s me act state).1 (sent_by s me before)
       (step_fair (step_of_act s me act state) (λ id. (facts.sheets id).command)
       (λ id. (here.partition.0, omega (arith, here.partition.1, (facts.sheets id).places.stamps))))

@@ -1,5 +1,5 @@
--- In a quiet run without losses and crashes some process of each partition knows the stamp of a command that was submitted
--- there.
+-- In a quiet run without losses and crashes some process of each partition knows the stamp of a command that was
+-- submitted there.
 use Rattle.std.proofs.Common.{◌≡◌, ℕ, List, []}
 use Rattle.tp_base.specs.Limits.{IsFrom}
 use Rattle.tp_base.specs.Lists.{IsIn}

@@ -126,6 +126,7 @@ module _ (s : QuorumRule) (me : Site) where
   pub all_replied : (acts : List Act) → Each (IsRepliedTo acts) (sent_by s me acts)
   all_replied [] = tt
   all_replied (act ∷ before) =
-      each_append (IsRepliedTo (act ∷ before)) _ _ (step_replies before (step_of_act s me act (state_after s me before)))
+      each_append (IsRepliedTo (act ∷ before)) _ _
+      (step_replies before (step_of_act s me act (state_after s me before)))
       (each_weaker (IsRepliedTo before) (IsRepliedTo (act ∷ before)) (λ m h. reply_more act before m.to m.body h) _
       (all_replied before))

@@ -1,4 +1,5 @@
--- In each run no stamp is above the count of the proposals that were made, and these are few: each step of a process has room.
+-- In each run no stamp is above the count of the proposals that were made, and these are few: each step of a process
+-- has room.
 -- Used for what a process takes in a run in which nothing is pending.
 use Rattle.std.proofs.Common.{◌≡◌, ℕ, ◌+◌, ◌≤◌, inl, inr, true, List, [], ◌∷◌, length, map, Some, refl, sym, subst, arith}
 use Rattle.std.specs.Prelude.{nat_lt}
@@ -94,10 +95,12 @@ module _ (script : Script) (accepted : IsAccepted script) where
       (λ k. length (process_at older k).attached) (sites_of script) (λ k there. attached_stays older e k)
 
   made_rises : (older : List Entry) (e : Entry) (k : Site) → is_site_of script.topology k ≡ true
-      → made older + length (process_at (e ∷ older) k).attached ≤ made (e ∷ older) + length (process_at older k).attached
+      → made older + length (process_at (e ∷ older) k).attached ≤ made (e ∷ older) + length
+      (process_at older k).attached
   unfolding made
   made_rises older e k at = total_rises (λ j. length (process_at older j).attached)
-      (λ j. length (process_at (e ∷ older) j).attached) (sites_of script) k (attached_stays older e) (site_listed script k at)
+      (λ j. length (process_at (e ∷ older) j).attached) (sites_of script) k (attached_stays older e)
+      (site_listed script k at)
 
   -- they are few
 
@@ -114,7 +117,8 @@ module _ (script : Script) (accepted : IsAccepted script) where
       let h = sound older history k at in
       let ids : List CommandId = map (λ (pair : Pair). pair.id) (process_at older k).attached in
       let few : length ids ≤ length (ids_of script) = distinct_within ids (ids_of script) h.once
-      (λ id there. each_in (λ (i : CommandId). IsIn i (ids_of script)) ids id (ours (process_at older k).attached h.ours) there) in
+      (λ id there. each_in (λ (i : CommandId). IsIn i (ids_of script)) ids id
+      (ours (process_at older k).attached h.ours) there) in
       omega (
         arith,
         few,
@@ -150,7 +154,8 @@ module _ (script : Script) (accepted : IsAccepted script) where
   listed_is k there =
       let shape = script.topology in
       let all = each_spread (λ (x : Site). is_site_of shape x ≡ true) (ranks_of script) (up_to shape.partitions)
-      (each_weaker (IsFrom 1 shape.partitions) (λ (p : ℕ). Each (λ (x : Site). is_site_of shape x ≡ true) (ranks_of script p))
+      (each_weaker (IsFrom 1 shape.partitions)
+      (λ (p : ℕ). Each (λ (x : Site). is_site_of shape x ≡ true) (ranks_of script p))
       (λ p of_partition. each_image (λ (x : Site). is_site_of shape x ≡ true) (site p) (up_to shape.replicas)
       (each_weaker (IsFrom 1 shape.replicas) (λ (r : ℕ). is_site_of shape (site p r) ≡ true)
       (λ r of_rank. site_known shape p r of_partition of_rank) (up_to shape.replicas) (each_up_to shape.replicas)))
@@ -195,7 +200,8 @@ module _ (script : Script) (accepted : IsAccepted script) where
       let moved : Step = react rule k act state in
       let rises = act_rises n rule k state h.state.clock h.state.sheets act took in
       let high : moved.0.clock ≤ m = omega (arith, rises.0, count) in
-      let new = low_state m rule k (step_of_act rule k act state) (act_more n m le act took) high (state_more n m le state h.state) in
+      let new = low_state m rule k (step_of_act rule k act state) (act_more n m le act took) high
+      (state_more n m le state h.state) in
       record {
         state = new.0;
         sent = each_append (λ (x : Message). IsLowBody m x.body) moved.1 (sent_by rule k list) new.1
@@ -233,7 +239,8 @@ module _ (script : Script) (accepted : IsAccepted script) where
           sent_low older history.0 before m (sent_before script (e ∷ older) history (Process k) m there).0
 
   -- the step of a message that was sent has room
-  pub sent_has_room : (older : List Entry) → IsFreeHistory script older → (k : Site) → is_site_of script.topology k ≡ true
+  pub sent_has_room : (older : List Entry) → IsFreeHistory script older → (k : Site)
+      → is_site_of script.topology k ≡ true
       → (m : Message) → IsSent older m
       → nat_lt (on_body rule k m.from m.body (process_at older k)).0.clock STAMP_LIMIT ≡ true
   sent_has_room older history k at m sent =

@@ -152,7 +152,8 @@ module _ (s : QuorumRule) (me : Site) where
         voted_at (Some put) is at =
             subst (λ (o : Option PutStamp).
             (ballot_put (with_vote (rank_of from) (record (state.sheets id) { put = o })).put ≡ b)
-            × (nth (votes_put (with_vote (rank_of from) (record (state.sheets id) { put = o })).put) (rank_of from) ≡ Some true))
+            × (nth (votes_put (with_vote (rank_of from) (record (state.sheets id) { put = o })).put)
+            (rank_of from) ≡ Some true))
             (sym is)
             (eqb-true put.ballot b at, nth_here put.votes (rank_of from) true places.rank_low (places.voters id put is))
 
@@ -216,7 +217,8 @@ module _ (s : QuorumRule) (me : Site) where
         (λ (moved : Step). counted (moved.0.sheets id))
         (λ full. by_choice (fast_choice s.shape (present new.acknowledged)) new there)
         (λ few. with_sheet_is counted id new state (inr (inr (inr there)))))
-        (λ n. refused (stamp_of old me.partition.0) old.put (cases_Bool (is_some (kept_at old.acknowledged (rank_of from))))
+        (λ n. refused (stamp_of old me.partition.0) old.put
+        (cases_Bool (is_some (kept_at old.acknowledged (rank_of from))))
         (cases_Bool (old.ballot == 0)) refl refl n timely.heeded)
       where
         by_choice : (choice : FastChoice) (new : Sheet) → is_some (kept_at new.acknowledged (rank_of from)) ≡ true
@@ -285,7 +287,8 @@ module _ (s : QuorumRule) (me : Site) where
         let tests = and_parts _ (is_none (kept_at old.answers (rank_of from))) y in
         let earlier = and_parts _ (not (is_put_at b old.put)) tests.0 in
         let tried : old.tried ≡ b = eqb-true old.tried b (and_parts _ (old.tried == b) earlier.0).1 in
-        cond_both (is_recovered s.shape new) (put_recovered s me id b new.command new state) (with_sheet id new state, [])
+        cond_both (is_recovered s.shape new) (put_recovered s me id b new.command new state)
+        (with_sheet id new state, [])
         (λ (moved : Step). counted (moved.0.sheets id))
         (λ enough. by_command new.command new (inr (inr (inr (tried, there))))
         (λ x. inr (inr (inr (tried, there)))))
@@ -345,7 +348,8 @@ module _ (s : QuorumRule) (me : Site) where
     body_serves (MProposeAck id t) e timely names sized =
         λ member. serve_propose_ack of m.from state id t.0 timely (places (subst IsPeer (sym e) tt)) member
     body_serves (MConsensus c t b) e timely names sized = serve_consensus of m.from state c t.0 b timely
-    body_serves (MConsensusAck id b) e timely names sized = serve_vote of m.from state id b timely (places (subst IsPeer (sym e) tt))
+    body_serves (MConsensusAck id b) e timely names sized = serve_vote of m.from state id b timely
+        (places (subst IsPeer (sym e) tt))
     body_serves (MCommit c q t) e timely names sized =
         let range = between_is q.0 s.shape.partitions
         (and_parts (is_command_at s.shape me.partition.0 c) (is_between q.0 s.shape.partitions) names).1 in

@@ -1,5 +1,5 @@
--- What a process keeps of a command is not left half done: what it puts and asks was sent to all ranks, a full fast quorum
--- was heeded, and each ballot that it joined was put or asked for. Each step keeps this.
+-- What a process keeps of a command is not left half done: what it puts and asks was sent to all ranks, a full fast
+-- quorum was heeded, and each ballot that it joined was put or asked for. Each step keeps this.
 -- Used for each process of a run in which nothing is pending.
 use Rattle.std.proofs.Common.{◌≡◌, ◌⊎◌, ℕ, ◌<◌, ◌≤◌, inl, inr, true, false, List, [], ◌∷◌, ◌++◌, length, Option, Some, None, is_none, is_some, refl, sym, ap, subst, ◌∙◌, arith}
 use Rattle.std.proofs.lemmas.Bool.{eqb-false}
@@ -93,7 +93,8 @@ module _ (s : QuorumRule) (me : Site) (of : CommandId → Command) where
       → SheetStep s me act id old new out → KeepsCommand of id old.command → IfAny (IsSpread sent id) old.put
       → IfAny (IsSpread (out ++ sent) id) new.put
   spread_kept {old = old} sent (puts_slow {m} id t e can full slow) command h =
-      put_spreads id _ _ old.command sent command (has_command_of_member s me.rank.0 (rank_of m.from) old.command can.member)
+      put_spreads id _ _ old.command sent command
+      (has_command_of_member s me.rank.0 (rank_of m.from) old.command can.member)
   spread_kept {old = old} sent (puts_recovered id t made a b c e can is enough) command h =
       put_spreads id _ _ (Some c) sent (subst (KeepsCommand of id) is command) refl
   spread_kept {out = out} sent (counts_vote old id put e none) command h = ranks_more sent [] _ h
@@ -122,7 +123,8 @@ module _ (s : QuorumRule) (me : Site) (of : CommandId → Command) where
       let x = h some in record { command = keeps x.command; question = ranks_more sent out _ x.question }
 
   -- a command that is kept stays
-  command_stays : {act : Act} {id : CommandId} {old new : Sheet} {out : List Message} → SheetStep s me act id old new out
+  command_stays : {act : Act} {id : CommandId} {old new : Sheet} {out : List Message}
+      → SheetStep s me act id old new out
       → is_some old.command ≡ true → is_some new.command ≡ true
   command_stays (submits c t e home fresh) some = refl
   command_stays (submits_and_acknowledges c t e home fresh can) some = refl
@@ -228,7 +230,8 @@ module _ (s : QuorumRule) (me : Site) (of : CommandId → Command) where
 
   answers_question : (m : Message) (acts : List Act) (sent rest : List Message) (c : Command) (b : ℕ) (x : Stamp)
       (made : Made) (a : ℕ) → m.body ≡ MRec c b → c ≡ of c.id
-      → HasAnswered me (Took m ∷ acts) (message (Process me) m.from (MRecAck c.id x made a b) ∷ rest ++ sent) (of c.id) b
+      → HasAnswered me (Took m ∷ acts) (message (Process me) m.from (MRecAck c.id x made a b) ∷ rest ++ sent)
+      (of c.id) b
   answers_question m acts sent rest c b x made a e ours =
       subst
       (λ (d : Command). HasAnswered me (Took m ∷ acts)

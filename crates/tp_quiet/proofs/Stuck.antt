@@ -1,5 +1,5 @@
--- Where each message was taken, admitted and in time, and a full fast quorum acknowledged, some process of a partition knows
--- the stamp of a command.
+-- Where each message was taken, admitted and in time, and a full fast quorum acknowledged, some process of a partition
+-- knows the stamp of a command.
 -- Used for each command and each of its partitions in a run in which nothing is pending.
 use Rattle.std.proofs.Common.{◌≡◌, ◌≢◌, ◌⊎◌, ℕ, ◌<◌, ◌≤◌, inl, inr, true, false, List, length, Option, Some, None, is_some, refl, sym, ap, subst, ◌∙◌, arith}
 use Rattle.std.specs.Prelude.{is_none}
@@ -191,7 +191,8 @@ module _ (script : Script) (older : List Entry) (run : IsTakenIn script older) (
             record {
               by = from.rank;
               in_range = from.in_range;
-              low = (put_of (facts from.rank from.in_range) w.message c (stamp t) (sheet k).ballot from.sent is_c).below;
+              low = (put_of (facts from.rank from.in_range) w.message c (stamp t)
+                  (sheet k).ballot from.sent is_c).below;
             }
 
         by_answer : HasAnswered (site p k) (acts_of k) (sent_of k) (of c.id) (sheet k).ballot
@@ -200,11 +201,13 @@ module _ (script : Script) (older : List Entry) (run : IsTakenIn script older) (
             let from = from_rank k h.question h.taken (subst IsPeer (sym h.asks) tt) in
             let back = subst
             (λ (a : ActorName). IsIn
-            (message (Process (site p k)) a (MRecAck (of c.id).id h.stamp h.made h.accepted (sheet k).ballot)) (sent_of k))
+            (message (Process (site p k)) a (MRecAck (of c.id).id h.stamp h.made h.accepted (sheet k).ballot))
+            (sent_of k))
             from.is h.answered in
             let back_c = subst
             (λ (d : Command). IsIn
-            (message (Process (site p k)) (Process (site p from.rank)) (MRecAck d.id h.stamp h.made h.accepted (sheet k).ballot))
+            (message (Process (site p k)) (Process (site p from.rank))
+            (MRecAck d.id h.stamp h.made h.accepted (sheet k).ballot))
             (sent_of k)) (sym ours) back in
             counted from.rank from.in_range
             (but_known from.rank from.in_range (served k from.rank from.in_range
@@ -252,7 +255,8 @@ module _ (script : Script) (older : List Entry) (run : IsTakenIn script older) (
     pub to : message.to ≡ Process (site p c.home.0)
     pub is : message.body ≡ MSubmit c
 
-  module _ (unknown : (k : ℕ) → IsRank k → Knows p (sheet k) → ⊥) (home : IsRank c.home.0) (submitted : IsSubmitted) where
+  module _ (unknown : (k : ℕ) → IsRank k → Knows p (sheet k) → ⊥) (home : IsRank c.home.0)
+      (submitted : IsSubmitted) where
     but_known_by : {X : Type 0} (k : ℕ) → IsRank k → Knows p (sheet k) ⊎ X → X
     but_known_by k range h = but_known unknown k range h
 
@@ -300,19 +304,23 @@ module _ (script : Script) (older : List Entry) (run : IsTakenIn script older) (
             let asks_c : h.question.body ≡ MPropose c (stamp h.floor) =
             h.asks ∙ ap (λ (d : Command). MPropose d (stamp h.floor)) (sym ours) in
             let from = from_rank j h.question h.taken (subst IsPeer (sym asks_c) tt) in
-            let said = said_of (facts from.rank from.in_range) h.question (MPropose c (stamp h.floor)) from.sent asks_c in
+            let said = said_of (facts from.rank from.in_range) h.question
+            (MPropose c (stamp h.floor)) from.sent asks_c in
             let at_home : from.rank ≡ c.home.0 =
             sym (ap (λ (d : Command). d.home.0) (same_named said.0 said.1.0) ∙ said.1.1) in
             let answer = subst
-            (λ (a : ActorName). IsIn (message (Process (site p j)) a (MProposeAck (of c.id).id (stamp h.proposed))) (sent_of j))
+            (λ (a : ActorName). IsIn (message (Process (site p j)) a (MProposeAck (of c.id).id (stamp h.proposed)))
+            (sent_of j))
             (from.is ∙ ap (λ (k : ℕ). Process (site p k)) at_home) h.answered in
             let answer_c = subst
-            (λ (d : Command). IsIn (message (Process (site p j)) (Process (site p c.home.0)) (MProposeAck d.id (stamp h.proposed))) (sent_of j))
+            (λ (d : Command). IsIn (message (Process (site p j)) (Process (site p c.home.0))
+            (MProposeAck d.id (stamp h.proposed))) (sent_of j))
             (sym ours) answer in
             counted_from j (served j c.home.0 home (MProposeAck c.id (stamp h.proposed)) answer_c
             (subst (λ (d : Command). rule.in_quorum d j ≡ true) ours member))
 
-        by_made : (made : Made) → HasReason rule (site p j) of (acts_of j) (sent_of j) c.id (sheet j).ballot made → IsCounted j
+        by_made : (made : Made) → HasReason rule (site p j) of (acts_of j) (sent_of j) c.id (sheet j).ballot made
+            → IsCounted j
         by_made Recovery h = inr (inr (inl h))
         by_made Proposal (inl h) = absurd (other (sym (ap (λ (d : Command). d.home.0) ours ∙ h.0)))
         by_made Proposal (inr h) = back h
@@ -349,7 +357,8 @@ module _ (script : Script) (older : List Entry) (run : IsTakenIn script older) (
         ]
 
         by_made : (made : Made) → is_proposal made ≡ is_made_by_proposal (sheet c.home.0).proposal
-            → HasReason rule (site p c.home.0) of (acts_of c.home.0) (sent_of c.home.0) c.id (sheet c.home.0).ballot made
+            → HasReason rule (site p c.home.0) of (acts_of c.home.0) (sent_of c.home.0) c.id
+            (sheet c.home.0).ballot made
             → IsCounted j
         by_made Recovery e h = absurd (unjoined h)
         by_made Proposal e (inl h) = by_place
@@ -399,7 +408,8 @@ module _ (script : Script) (older : List Entry) (run : IsTakenIn script older) (
       ungathered = but_known_by c.home.0 home (standing c.home.0 home).heeded;
       acknowledged = acknowledged;
       votes = λ j range some.
-          let x = put_of_rank unknown j range some in ap (λ (o : Option PutStamp). length (votes_put o)) x.is ∙ x.same_size;
+          let x = put_of_rank unknown j range some in ap (λ (o : Option PutStamp). length (votes_put o)) x.is
+          ∙ x.same_size;
       answers = λ j range. ((facts j range).sheets c.id).places.answered;
       acknowledgements = ((facts c.home.0 home).sheets c.id).places.acknowledgements;
     }

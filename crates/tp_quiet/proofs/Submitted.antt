@@ -1,5 +1,5 @@
--- A command that was submitted was sent to its home in each partition that it accesses, each command that an actor of the run
--- keeps was submitted, and the first commands of a session that it counts as submitted were.
+-- A command that was submitted was sent to its home in each partition that it accesses, each command that an actor of
+-- the run keeps was submitted, and the first commands of a session that it counts as submitted were.
 -- Used for each command in a run in which nothing is pending.
 use Rattle.std.proofs.Common.{◌≡◌, ℕ, suc, inl, inr, true, List, [], ◌∷◌, map, Option, Some, None, sym, ap, subst, ◌∙◌, arith}
 use Rattle.std.specs.Prelude.{◌-◌, option_map, slice_get, unwrap_or}
@@ -43,7 +43,8 @@ module _ (script : Script) (accepted : IsAccepted script) where
   -- the home of a command is that of its session
   home_is : (c : Command) → IsIn c script.commands → home_of script c.id.session ≡ c.home.0
   home_is c ours =
-      let of : IsCommandOf script.homes c = each_in (IsCommandOf script.homes) script.commands c accepted.commands ours in
+      let of : IsCommandOf script.homes c = each_in
+      (IsCommandOf script.homes) script.commands c accepted.commands ours in
       let place : c.id.session.0 ≡ suc (c.id.session.0 - 1) = omega (arith, of.1.0) in
       go (slice_get script.homes (c.id.session.0 - 1)) (ap (nth script.homes) place) of.2
     where

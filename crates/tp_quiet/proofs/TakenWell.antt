@@ -1,4 +1,5 @@
--- In a run each message that is admitted comes in time: a reply is to what was asked, and its question was asked before.
+-- In a run each message that is admitted comes in time: a reply is to what was asked, and its question was asked
+-- before.
 -- Used for each process of a run in which nothing is pending.
 use Rattle.std.proofs.Common.{◌≡◌, ℕ, ◌≤◌, inl, true, false, List, [], ◌∷◌, Option, Some, None, is_none, is_some, refl, sym, ap, subst, ◌∙◌, arith}
 use Rattle.tp_base.proofs.Each.{each_in, each_of, each_weaker}
@@ -83,7 +84,8 @@ module _ (script : Script) (accepted : IsAccepted script) where
   pub fits : (older : List Entry) → IsFreeHistory script older → (a : ActorName)
       → Each (IsFitAct script) (acts older a)
   fits older history a =
-      acts_pass script (IsFit script) older a (history_passes script (IsFit script) (fit_handed_on script accepted) older history)
+      acts_pass script (IsFit script) older a
+      (history_passes script (IsFit script) (fit_handed_on script accepted) older history)
 
   fit_act : (act : Act) → IsFitAct script act → IsGenuine of act
   fit_act (Took m) fit = fit_genuine script accepted m.from m.to m.body fit.range fit.ours
@@ -136,7 +138,8 @@ module _ (script : Script) (accepted : IsAccepted script) where
         let same : said.0 ≡ id = sym said.1.0 ∙ r.2 in
         proposed id (subst (λ (i : CommandId). (of i).home.0 ≡ k.rank.0) same said.1.1)
         (subst
-        (λ (i : CommandId). is_made_by_proposal ((state_after rule k (acts older (Process k))).sheets i).proposal ≡ true) same
+        (λ (i : CommandId). is_made_by_proposal
+        ((state_after rule k (acts older (Process k))).sheets i).proposal ≡ true) same
         (ap is_made_by_proposal said.1.2))
       where
         proposed : (id : CommandId) → (of id).home.0 ≡ k.rank.0
@@ -170,7 +173,8 @@ module _ (script : Script) (accepted : IsAccepted script) where
         let put = put_of facts q.0 r.0 r.1 b q.1 q.2 in (
           omega (arith, range.3.0),
           subst
-              (λ (i : CommandId). b ≤ ballot_put ((state_after rule k (acts older (Process k))).sheets i).put) r.2 put.below,
+              (λ (i : CommandId). b ≤ ballot_put
+              ((state_after rule k (acts older (Process k))).sheets i).put) r.2 put.below,
         )
     timely (MRec c b) e range = omega (arith, range.3.1)
     timely (MRecAck id t made a b) e range =
@@ -224,7 +228,8 @@ module _ (script : Script) (accepted : IsAccepted script) where
       rest (λ act same is. by_act act same is rest) admitted
     where
       by_act : (act : Act) → e.actor ≡ Process k → act_of older e.event ≡ Some act
-          → (AreAdmitted rule k (acts older (Process k)) → AreTakenWell rule k of (is_here k at) (acts older (Process k)))
+          → (AreAdmitted rule k (acts older (Process k))
+          → AreTakenWell rule k of (is_here k at) (acts older (Process k)))
           → AreAdmitted rule k (act ∷ acts older (Process k))
           → AreTakenWell rule k of (is_here k at) (act ∷ acts older (Process k))
       by_act (Did inner) same is rest h = rest h
@@ -235,7 +240,8 @@ module _ (script : Script) (accepted : IsAccepted script) where
             rest h.0,
             well older history.0 k at m before.0 before.1
                 (λ peer. from_own_partition script (e ∷ older) history k.partition.0 k m refl there peer)
-                (each_in (IsFitAct script) (acts (e ∷ older) (Process k)) (Took m) (fits (e ∷ older) history (Process k)) there)
+                (each_in (IsFitAct script) (acts (e ∷ older) (Process k)) (Took m)
+                (fits (e ∷ older) history (Process k)) there)
                 h.1,
           )
 

@@ -1,5 +1,5 @@
--- A process that learns its partition's stamp tells it to all processes of all partitions that the command accesses, or was
--- told it. Used for what all processes know in a run in which nothing is pending.
+-- A process that learns its partition's stamp tells it to all processes of all partitions that the command accesses, or
+-- was told it. Used for what all processes know in a run in which nothing is pending.
 use Rattle.std.proofs.Common.{◌≡◌, ◌≢◌, ◌⊎◌, ℕ, inl, inr, true, false, List, ◌++◌, map, Option, Some, None, is_some, refl, sym, ap, subst, ◌∙◌}
 use Rattle.std.specs.Prelude.{filter, is_none, not}
 use Rattle.std.specs.List.{flat_map}
@@ -50,7 +50,8 @@ module _ (s : QuorumRule) (me : Site) (of : CommandId → Command) where
   abbrev pub LearnsOrTells : Act → List Message → CommandId → Type 0
   LearnsOrTells act out id = ((t : ℕ) × IsTold out (of id) t) ⊎ TookCommit act (of id) me.partition.0
 
-  commits_tell : (c : Command) (t : ℕ) (more : List Message) → IsTold (commit_messages s.shape me (Some c) t ++ more) c t
+  commits_tell : (c : Command) (t : ℕ) (more : List Message)
+      → IsTold (commit_messages s.shape me (Some c) t ++ more) c t
   unfolding commit_messages
   commits_tell c t more q r among range other =
       let all : List ActorName = flat_map (processes_of s.shape) (accessed s.shape c) in
@@ -70,7 +71,8 @@ module _ (s : QuorumRule) (me : Site) (of : CommandId → Command) where
       → is_some o ≡ true → IsTold (commit_messages s.shape me o t ++ more) (of id) t
   kept_command_told id None t more keeps some = absurd cc
   kept_command_told id (Some c) t more keeps some =
-      subst (λ (d : Command). IsTold (commit_messages s.shape me (Some c) t ++ more) d t) keeps.0 (commits_tell c t more)
+      subst (λ (d : Command). IsTold (commit_messages s.shape me (Some c) t ++ more) d t) keeps.0
+      (commits_tell c t more)
 
   -- another partition's stamp changes nothing here
   learned_here : (m : Message) (c : Command) (q t : ℕ) (known : List (Option ℕ)) (o : Option ℕ)
@@ -109,13 +111,15 @@ module _ (s : QuorumRule) (me : Site) (of : CommandId → Command) where
   sheet_tells _ genuine keeps put known = inl known
 
   -- what an act does to each sheet
-  pub act_tells : {act : Act} {state : ProcessState} {moved : Step} → ProcessStep s me act state moved → IsGenuine of act
+  pub act_tells : {act : Act} {state : ProcessState} {moved : Step} → ProcessStep s me act state moved
+      → IsGenuine of act
       → ((id : CommandId) → KeepsCommand of id (state.sheets id).command)
       → ((id : CommandId) → is_none (state.sheets id).put ≡ false → is_some (state.sheets id).command ≡ true)
       → (id : CommandId) → Knows me.partition.0 (moved.0.sheets id)
       → Knows me.partition.0 (state.sheets id) ⊎ LearnsOrTells act moved.1 id
   act_tells {act} {state} {moved} step genuine keeps put id =
-      each_sheet (λ out i sheet. Knows me.partition.0 sheet → Knows me.partition.0 (state.sheets i) ⊎ LearnsOrTells act out i)
+      each_sheet (λ out i sheet. Knows me.partition.0 sheet → Knows me.partition.0 (state.sheets i)
+      ⊎ LearnsOrTells act out i)
       s me act state moved step
       (λ i new out change known. sheet_tells change genuine (keeps i) (put i) known)
       (λ out i known. inl known) id

@@ -1,5 +1,5 @@
--- A process that knows the stamps of all partitions that a command accesses has told its executor the command's stamp, and its
--- clock is there. Each act keeps this.
+-- A process that knows the stamps of all partitions that a command accesses has told its executor the command's stamp,
+-- and its clock is there. Each act keeps this.
 -- Used for what executors know in a run in which nothing is pending.
 use Rattle.std.proofs.Common.{◌≡◌, ℕ, ◌≤◌, inl, inr, true, false, List, [], ◌∷◌, ◌++◌, map, max, Option, Some, None, is_some, refl, sym, ap, subst, ◌∙◌, arith}
 use Rattle.std.specs.Prelude.{◌&&◌, is_none, nat_lt, replicate, unwrap_or}
@@ -190,7 +190,8 @@ module _ (s : QuorumRule) (me : Site) (of : CommandId → Command) where
     put_some b (Some put) e = refl
 
     voted_tells : (id : CommandId) (o : Option ℕ) (sheet : Sheet) → KeepsCommand of id sheet.command
-        → is_some sheet.command ≡ true → sheet.known ≡ (state.sheets id).known → TellsAfter (voted s me id o sheet state)
+        → is_some sheet.command ≡ true → sheet.known ≡ (state.sheets id).known
+        → TellsAfter (voted s me id o sheet state)
     voted_tells id None sheet keeps some same = with_sheet_tells id sheet [] same
     voted_tells id (Some t) sheet keeps some same = decided_tells id t sheet keeps some same
 
@@ -200,7 +201,8 @@ module _ (s : QuorumRule) (me : Site) (of : CommandId → Command) where
     vote_tells from id b keeps put =
         let old : Sheet = state.sheets id in
         let new : Sheet = with_vote (rank_of from) old in
-        cond_both (can_vote me.partition.0 b old) (voted s me id (stamp_decided s.shape new) new state) (state, []) TellsAfter
+        cond_both (can_vote me.partition.0 b old) (voted s me id (stamp_decided s.shape new) new state)
+        (state, []) TellsAfter
         (λ y. voted_tells id (stamp_decided s.shape new) new keeps
         (put (put_some b old.put (and_parts (is_none (stamp_of old me.partition.0)) (is_put_at b old.put) y).1)) refl)
         (λ n. h)
@@ -214,12 +216,14 @@ module _ (s : QuorumRule) (me : Site) (of : CommandId → Command) where
         → TellsAfter (on_commit s me c q t state)
     commit_tells c q t ours keeps =
         let old : Sheet = state.sheets c.id in
-        cond_both (is_accessed s.shape.partitions c q) (learned s.shape me c.id q t (with_command c old) state) (state, [])
+        cond_both (is_accessed s.shape.partitions c q) (learned s.shape me c.id q t (with_command c old) state)
+        (state, [])
         TellsAfter
         (λ y. learned_tells c.id q t (with_command c old) (kept_or c old.command ours keeps) refl refl)
         (λ n. h)
 
-    admitted_tells : (m : Message) → TellsAfter (on_body s me m.from m.body state) → TellsAfter (react s me (Took m) state)
+    admitted_tells : (m : Message) → TellsAfter (on_body s me m.from m.body state)
+        → TellsAfter (react s me (Took m) state)
     admitted_tells m goes =
         let moved : Step = on_body s me m.from m.body state in
         cond_both (same_name m.to (Process me) && is_name_of s.shape m.from && is_body_at s.shape me.partition.0 m.body)
@@ -272,7 +276,8 @@ module _ (s : QuorumRule) (me : Site) (of : CommandId → Command) where
       unknown (Some t) is some = kept_replicate s.shape.partitions me.partition.0 t is
 
   pub all_tell_final : (here : IsHere s me) → IsShape s.shape → (acts : List Act) → Each (IsGenuine of) acts
-      → (id : CommandId) → TellsFinal (sent_by s me acts) (state_after s me acts).clock id ((state_after s me acts).sheets id)
+      → (id : CommandId) → TellsFinal (sent_by s me acts) (state_after s me acts).clock id
+      ((state_after s me acts).sheets id)
   all_tell_final here shape [] genuine id = blank_tells id
   all_tell_final here shape (act ∷ before) genuine id =
       let facts = facts_hold s me of here before genuine.1 in
