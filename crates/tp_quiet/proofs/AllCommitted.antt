@@ -17,11 +17,11 @@ use Rattle.tp_facts.proofs.Commands.{accessed_from, command_in, command_in_names
 use Rattle.tp_ops.specs.Parts.{is_accessed}
 use Rattle.tp_ops.specs.declared.command.Command.{Command}
 use Rattle.tp_replies.proofs.Submissions.{IsSubmitted}
-use Rattle.tp_rules.proofs.Fit.{site_known}
-use Rattle.tp_rules.proofs.SendsOfProcess.{stamp}
-use Rattle.tp_rules.proofs.Tallies.{filter_in, in_filter}
-use Rattle.tp_rules.proofs.Unexecuted.{executor_of}
-use Rattle.tp_rules.proofs.UpTo.{in_up_to}
+use Rattle.tp_rules.proofs.fit.Messages.{site_known}
+use Rattle.tp_rules.proofs.sent.SendsOfProcess.{stamp}
+use Rattle.tp_rules.proofs.lists.Tallies.{filter_in, in_filter}
+use Rattle.tp_rules.proofs.ends.Unexecuted.{executor_of}
+use Rattle.tp_rules.proofs.lists.UpTo.{in_up_to}
 use Rattle.tp_rules.specs.Addresses.{accessed, is_body_at, is_name_of, is_site_of, message, site}
 use Rattle.tp_rules.specs.Executor.{Committed, committed_ids}
 use Rattle.tp_rules.specs.Journal.{IsSent, acts}

@@ -34,7 +34,7 @@ use Rattle.tp_rules.specs.Journal.{IsSent, act_of, acts}
 use Rattle.tp_rules.specs.Process.{react, state_after}
 use Rattle.tp_rules.specs.Runs.{IsFreeHistory}
 use Rattle.tp_rules.specs.Sheet.{QuorumRule, blank, ring_rule}
-use Rattle.tp_rules.specs.Tables.{kept_at}
+use Rattle.tp_base.specs.Tables.{kept_at}
 use Rattle.tp_rules.specs.declared.event.Entry.{Entry}
 use Rattle.tp_script.specs.Accepted.{IsAccepted}
 use Rattle.tp_script.specs.declared.script.Script.{Script}

@@ -16,7 +16,7 @@ use Rattle.tp_base.specs.declared.names.CommandId.{CommandId}
 use Rattle.tp_base.specs.declared.names.PartitionId.{PartitionId}
 use Rattle.tp_base.specs.declared.names.SessionId.{SessionId}
 use Rattle.tp_facts.proofs.Commands.{command_is}
-use Rattle.tp_facts.proofs.Tables.{got_within}
+use Rattle.tp_base.proofs.Ends.{got_within}
 use Rattle.tp_ops.specs.Parts.{merged}
 use Rattle.tp_ops.specs.declared.command.Command.{Command}
 use Rattle.tp_ops.specs.declared.operation.Answer.{Answer}
@@ -26,7 +26,7 @@ use Rattle.tp_replies.proofs.Submissions.{IsSubmitted}
 use Rattle.tp_replies.specs.SessionReply.{session_of}
 use Rattle.tp_rules.proofs.ActsMore.{acts_step}
 use Rattle.tp_rules.proofs.OwnSteps.{session_may}
-use Rattle.tp_rules.proofs.Unsubmitted.{submitted_by}
+use Rattle.tp_rules.proofs.ends.Unsubmitted.{submitted_by}
 use Rattle.tp_rules.specs.Acts.{Act, Client, Took, Did}
 use Rattle.tp_rules.specs.Addresses.{accessed, is_body_at, is_name_of}
 use Rattle.tp_rules.specs.Journal.{act_of, acts, client_of, commands_of, identity_in, output_at, with_act}
@@ -34,7 +34,7 @@ use Rattle.tp_rules.specs.Outcome.{first_result, is_submission_of, is_submit, re
 use Rattle.tp_rules.specs.Rules.{MayMake}
 use Rattle.tp_rules.specs.Runs.{IsFreeHistory, MayHappen}
 use Rattle.tp_rules.specs.Session as session
-use Rattle.tp_rules.specs.Tables.{nth}
+use Rattle.tp_base.specs.Tables.{nth}
 use Rattle.tp_rules.specs.declared.event.Entry.{Entry}
 use Rattle.tp_rules.specs.declared.event.Event.{Event}
 use Rattle.tp_rules.specs.declared.event.Event.TheVariants.{Deliver, Dropped, Inner as OfItself}

@@ -14,7 +14,7 @@ use Rattle.tp_base.specs.declared.names.Site.{Site}
 use Rattle.tp_order.proofs.EntryKinds.{EntryKind, quiet, declares, executes, kind_of}
 use Rattle.tp_order.proofs.Executions.{least_is_waiting, site_cases}
 use Rattle.tp_rules.proofs.ActsMore.{acts_step}
-use Rattle.tp_rules.proofs.Unexecuted.{executor_of, executor_remembers}
+use Rattle.tp_rules.proofs.ends.Unexecuted.{executor_of, executor_remembers}
 use Rattle.tp_rules.specs.Acts.{Act}
 use Rattle.tp_rules.specs.Addresses.{others_accessed}
 use Rattle.tp_rules.specs.Executor.{Committed, ExecutorState, committed_ids, is_heard, is_ready, is_undeclared, state_after}

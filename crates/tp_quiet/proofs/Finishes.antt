@@ -17,12 +17,12 @@ use Rattle.tp_ops.specs.declared.command.Command.{Command}
 use Rattle.tp_order.proofs.Executions.{noted_is_executed}
 use Rattle.tp_order.proofs.SentCommits.{sent_commit_of}
 use Rattle.tp_replies.proofs.Submissions.{IsSubmitted}
-use Rattle.tp_rules.proofs.Fit.{is_between-from, site_known}
+use Rattle.tp_rules.proofs.fit.Messages.{is_between-from, site_known}
 use Rattle.tp_rules.proofs.Histories.{free_history}
-use Rattle.tp_rules.proofs.SendsOfProcess.{stamp}
-use Rattle.tp_rules.proofs.Unannounced.{site_listed}
-use Rattle.tp_rules.proofs.Unexecuted.{executor_of}
-use Rattle.tp_rules.proofs.Unsubmitted.{command_numbered, submitted_by}
+use Rattle.tp_rules.proofs.sent.SendsOfProcess.{stamp}
+use Rattle.tp_rules.proofs.ends.Unannounced.{site_listed}
+use Rattle.tp_rules.proofs.ends.Unexecuted.{executor_of}
+use Rattle.tp_rules.proofs.ends.Unsubmitted.{command_numbered, submitted_by}
 use Rattle.tp_rules.specs.Addresses.{accessed, is_site_of, message, site}
 use Rattle.tp_rules.specs.Journal.{IsSent, acts, identity_in, is_known}
 use Rattle.tp_rules.specs.Outcome.{first_result, reply_to}

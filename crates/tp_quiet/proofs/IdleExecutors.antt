@@ -29,14 +29,14 @@ use Rattle.tp_order.proofs.SentCommits.{sent_is_commit}
 use Rattle.tp_order.proofs.Stability.{IsTrueTelling}
 use Rattle.tp_order.specs.Due.{final_key, final_owner}
 use Rattle.tp_replies.proofs.Submissions.{IsSubmitted}
-use Rattle.tp_rules.proofs.CarriedCommands.{Keeps}
-use Rattle.tp_rules.proofs.Fit.{IsCommandHere, site_is, site_known}
-use Rattle.tp_rules.proofs.Provenance.{IsOf, committed_provenance}
-use Rattle.tp_rules.proofs.Selections.{IfAny}
-use Rattle.tp_rules.proofs.SendsOfProcess.{stamp}
-use Rattle.tp_rules.proofs.Tallies.{filter_in, in_filter}
-use Rattle.tp_rules.proofs.Unannounced.{site_listed}
-use Rattle.tp_rules.proofs.Unexecuted.{executor_of}
+use Rattle.tp_rules.proofs.sent.CarriedCommands.{Keeps}
+use Rattle.tp_rules.proofs.fit.Messages.{IsCommandHere, site_is, site_known}
+use Rattle.tp_rules.proofs.sent.Provenance.{IsOf, committed_provenance}
+use Rattle.tp_rules.proofs.lists.Selections.{IfAny}
+use Rattle.tp_rules.proofs.sent.SendsOfProcess.{stamp}
+use Rattle.tp_rules.proofs.lists.Tallies.{filter_in, in_filter}
+use Rattle.tp_rules.proofs.ends.Unannounced.{site_listed}
+use Rattle.tp_rules.proofs.ends.Unexecuted.{executor_of}
 use Rattle.tp_rules.specs.Addresses.{accessed, is_name_of, is_site_of, message, others_accessed, site}
 use Rattle.tp_rules.specs.Executor.{Committed, Heard, committed_ids, is_heard, is_undeclared}
 use Rattle.tp_rules.specs.Journal.{IsSent, acts, identity_in, is_known}

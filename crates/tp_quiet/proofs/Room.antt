@@ -17,17 +17,17 @@ use Rattle.tp_facts.proofs.Senders.{IsOfProcess, sender_of, sent_by_process}
 use Rattle.tp_facts.proofs.StepCases.{ProcessStep, does_nothing, bumps_clock, announces, passes_commit_on, changes_sheet, attaches_proposal}
 use Rattle.tp_ops.specs.declared.command.Command.{Command}
 use Rattle.tp_rules.proofs.ActsMore.{acts_step, acts_then}
-use Rattle.tp_rules.proofs.Distinct.{distinct_within}
-use Rattle.tp_rules.proofs.EachSent.{acts_pass, history_passes}
-use Rattle.tp_rules.proofs.Fit.{IsFit, site_known}
-use Rattle.tp_rules.proofs.FitChoices.{ring_has_fast_size}
-use Rattle.tp_rules.proofs.FitProcesses.{IsProcessSound, ids_of}
-use Rattle.tp_rules.proofs.FitRules.{process_sound}
-use Rattle.tp_rules.proofs.InRange.{fit_handed_on}
-use Rattle.tp_rules.proofs.Selections.{each_image, each_spread, each_up_to}
-use Rattle.tp_rules.proofs.Tallies.{lower_total, total_bound}
-use Rattle.tp_rules.proofs.Unannounced.{site_listed}
-use Rattle.tp_rules.proofs.UpTo.{flat_length, length-up_to, map_length}
+use Rattle.tp_rules.proofs.lists.Distinct.{distinct_within}
+use Rattle.tp_rules.proofs.sent.EachSent.{acts_pass, history_passes}
+use Rattle.tp_rules.proofs.fit.Messages.{IsFit, site_known}
+use Rattle.tp_rules.proofs.fit.Choices.{ring_has_fast_size}
+use Rattle.tp_rules.proofs.fit.Processes.{IsProcessSound, ids_of}
+use Rattle.tp_rules.proofs.fit.Rules.{process_sound}
+use Rattle.tp_rules.proofs.fit.InRange.{fit_handed_on}
+use Rattle.tp_rules.proofs.lists.Selections.{each_image, each_spread, each_up_to}
+use Rattle.tp_rules.proofs.lists.Tallies.{lower_total, total_bound}
+use Rattle.tp_rules.proofs.ends.Unannounced.{site_listed}
+use Rattle.tp_rules.proofs.lists.UpTo.{flat_length, length-up_to, map_length}
 use Rattle.tp_rules.specs.Acts.{Act, Took, Did}
 use Rattle.tp_rules.specs.Addresses.{is_site_of, site}
 use Rattle.tp_rules.specs.Journal.{IsSent, act_of, acts, ranks_of}

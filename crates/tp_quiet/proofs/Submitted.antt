@@ -19,7 +19,7 @@ use Rattle.tp_facts.proofs.Deliveries.{took_sent}
 use Rattle.tp_ops.specs.declared.command.Command.{Command}
 use Rattle.tp_replies.proofs.SessionCommands.{command_at}
 use Rattle.tp_replies.proofs.Submissions.{IsSubmitted, carried}
-use Rattle.tp_rules.proofs.CarriedCommands.{Carries, CommitsOnly, KeepsOnly, Takes, executor_commits_only, process_keeps_only}
+use Rattle.tp_rules.proofs.sent.CarriedCommands.{Carries, CommitsOnly, KeepsOnly, Takes, executor_commits_only, process_keeps_only}
 use Rattle.tp_rules.specs.Acts.{Act, Client, Took, Did}
 use Rattle.tp_rules.specs.Addresses.{accessed, message, site}
 use Rattle.tp_rules.specs.Executor as executor
@@ -29,7 +29,7 @@ use Rattle.tp_rules.specs.Journal.{IsSent, act_of, acts, client_of, commands_of,
 use Rattle.tp_rules.specs.Outcome.{is_submission_of, is_submit}
 use Rattle.tp_rules.specs.Runs.{IsFreeHistory, outputs_by}
 use Rattle.tp_rules.specs.Sheet.{ring_rule}
-use Rattle.tp_rules.specs.Tables.{nth}
+use Rattle.tp_base.specs.Tables.{nth}
 use Rattle.tp_rules.specs.declared.event.Entry.{Entry}
 use Rattle.tp_rules.specs.declared.event.Event.{Event}
 use Rattle.tp_rules.specs.declared.event.Event.TheVariants.{Deliver, Dropped, Inner as OfItself}

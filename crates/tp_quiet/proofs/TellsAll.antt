@@ -25,7 +25,7 @@ use Rattle.tp_rules.specs.Acts.{Act, Took}
 use Rattle.tp_rules.specs.Addresses.{accessed, message, processes_of, rank_of, site}
 use Rattle.tp_rules.specs.Process.{ProcessState, Step, commit_messages}
 use Rattle.tp_rules.specs.Sheet.{QuorumRule, Sheet}
-use Rattle.tp_rules.specs.Tables.{kept_at, with_nth}
+use Rattle.tp_base.specs.Tables.{kept_at, with_nth}
 use Rattle.tp_topology.specs.Counting.{up_to}
 use Rattle.tp_wire.specs.declared.message.Body.TheVariants.{MCommit}
 use Rattle.tp_wire.specs.declared.message.Message.{Message}

@@ -32,7 +32,7 @@ use Rattle.tp_rules.specs.Acts.{Act, Took, Did}
 use Rattle.tp_rules.specs.Addresses.{accessed, is_body_at, is_name_of, message, rank_of}
 use Rattle.tp_rules.specs.Process.{ProcessState, Step, commit_messages, conclude_fast_path, decided, finished, follow_choice, learned, on_body, on_commit, on_consensus_ack, on_propose_ack, react, state_after, voted, with_room, with_sheet}
 use Rattle.tp_rules.specs.Sheet.{QuorumRule, Sheet, acknowledged, blank, can_acknowledge, can_vote, final_stamp, greatest_known, is_full, putting, stamp_decided, stamp_of, stamps_of, with_command, with_stamp, with_vote}
-use Rattle.tp_rules.specs.Tables.{kept_at}
+use Rattle.tp_base.specs.Tables.{kept_at}
 use Rattle.tp_wire.specs.declared.message.Body.{Body}
 use Rattle.tp_wire.specs.declared.message.Body.TheVariants.{MCommit, MCommitted, MConsensusAck, MProposeAck}
 use Rattle.tp_wire.specs.declared.message.Message.{Message}
