@@ -18,7 +18,7 @@ use Rattle.tp_netbook.proofs.Turned.{listed_settled, turned_marks}
 use Rattle.tp_netbook.proofs.Watches.{alive_is, lines_are, undue_is, watches_more}
 use Rattle.tp_netbook.specs.Netbook as book
 use Rattle.tp_netbook.specs.Fates.{AreFates}
-use Rattle.tp_netbook.specs.Netbook.{Adds, AreCounted, AreListed, AreNext, ArePlaced, AreReady, AreReadyBut, AreWatches, IsNetbook, KeepsMarks, KeepsRest, Turns, deliveries, delivery_item, is_alive, is_free, is_undue, line_item, lines, new_outputs, own_items}
+use Rattle.tp_netbook.specs.Netbook.{Adds, AreCounted, AreListed, AreNext, ArePlaced, AreReady, AreReadyBut, AreWatches, IsNetbook, KeepsMarks, KeepsRest, Turns, deliveries, delivery_item, due_items, is_alive, is_free, is_undue, line_item, lines, new_outputs, own_items}
 use Rattle.tp_netbook.specs.Outputs.{loses, output_of, passed, starts_of}
 use Rattle.tp_netbook.specs.Routes.{AreCounts}
 use Rattle.tp_netbook.specs.declared.netbook.Netbook.{Netbook}
@@ -202,11 +202,11 @@ module _ (script : Script) (journal : List Entry) (e : Entry) (b : Netbook) (is 
   -- the event settles an output (b1), the entry is counted (b2), outputs are marked anew (b3), the entry begins (b4) and its outputs are added (b5)
   module _ (b1 b2 b3 b4 b5 : Netbook) (turned : Option ℕ)
       (outputs1 : b1.outputs.items ≡ map (passed e.event) b.outputs.items) (ready1 : AreReady b1) (rest1 : KeepsRest b b1) (routes1 : b1.routes ≡ b.routes) (inboxes1 : b1.inboxes ≡ b.inboxes)
-      (counted : AreCounted e.actor e.event b1 b1.sites.items b2.sites.items) (turns : Turns turned b1 b2)
+      (counted : AreCounted e.actor e.event b1 b1.sites.items b2.sites.items) (turns : Turns turned b1 b2) (due2 : b1.due ≡ length (lines b1) → b2.due ≡ length (lines b2))
       (topology2 : b2.topology ≡ b1.topology) (outputs2 : b2.outputs ≡ b1.outputs) (starts2 : b2.starts ≡ b1.starts) (inboxes2 : b2.inboxes ≡ b1.inboxes) (marks2 : b2.ready ≡ b1.ready)
       (roster2 : b2.roster ≡ b1.roster) (fates2 : b2.fates ≡ b1.fates) (routes2 : b2.routes ≡ b1.routes)
       (ready3 : AreReadyBut b2 turned → AreReady b3) (rest3 : KeepsRest b2 b3) (outputs3 : b3.outputs ≡ b2.outputs) (routes3 : b3.routes ≡ b2.routes) (inboxes3 : b3.inboxes ≡ b2.inboxes)
-      (topology4 : b4.topology ≡ b3.topology) (sites4 : b4.sites ≡ b3.sites) (roster4 : b4.roster ≡ b3.roster) (fates4 : b4.fates ≡ b3.fates) (routes4 : b4.routes ≡ b3.routes)
+      (topology4 : b4.topology ≡ b3.topology) (sites4 : b4.sites ≡ b3.sites) (due4 : b4.due ≡ b3.due) (roster4 : b4.roster ≡ b3.roster) (fates4 : b4.fates ≡ b3.fates) (routes4 : b4.routes ≡ b3.routes)
       (outputs4 : b4.outputs ≡ b3.outputs) (inboxes4 : b4.inboxes ≡ b3.inboxes) (starts4 : b4.starts.items ≡ b3.starts.items ++ length b3.outputs.items ∷ []) (entries4 : b4.entries ≡ suc (length journal))
       (ready4 : AreReady b3 → AreReady b4)
       (adds : Adds (numbered b4.entries 1 e.outputs) b4 b5) (marks5 : KeepsMarks b4 b5) (rest5 : KeepsRest b4 b5) where
@@ -261,6 +261,11 @@ module _ (script : Script) (journal : List Entry) (e : Entry) (b : Netbook) (is 
     listed_now : AreListed b5
     listed_now = marks5.listed (listed_settled b b4 e.event passed_now (topology4 ∙ rest3.topology ∙ topology2 ∙ rest1.topology) (inboxes4 ∙ inboxes3 ∙ inboxes2 ∙ inboxes1) is.listed)
 
+    due_now : b5.due ≡ length (lines b5)
+    due_now =
+        rest5.due ∙ due4 ∙ rest3.due ∙ due2 (rest1.due ∙ is.due ∙ ap (λ sites. length (due_items sites.items)) (sym rest1.sites))
+        ∙ ap (λ sites. length (due_items sites.items)) (sym (rest5.sites ∙ sites4 ∙ rest3.sites))
+
     pub netbook_more : IsNetbook script (journal ++ e ∷ []) b5
     netbook_more = record {
       topology = rest5.topology ∙ topology_now;
@@ -276,6 +281,7 @@ module _ (script : Script) (journal : List Entry) (e : Entry) (b : Netbook) (is 
       inboxes = marks5.inboxes ∙ ap (λ l. length l.items) (inboxes4 ∙ inboxes3 ∙ inboxes2 ∙ inboxes1) ∙ is.inboxes;
       listed = listed_now;
       ready = ready_now;
+      due = due_now;
       entries = rest5.entries ∙ entries4 ∙ more;
     }
       where

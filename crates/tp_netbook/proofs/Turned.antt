@@ -3,7 +3,8 @@ use Rattle.std.proofs.Common.{◌≡◌, ◌≢◌, ℕ, zero, suc, ◌<◌, inl
 use Rattle.std.proofs.lemmas.Bool.{cases_eq}
 use Rattle.std.proofs.lemmas.List.{length-map, length-set}
 use Rattle.std.proofs.lemmas.Option.{slice_get-map, slice_get_within}
-use Rattle.std.specs.Prelude.{◌⊎◌, ◌&&◌, ◌||◌, is_none, nat_lt, option_map, slice_get}
+use Rattle.std.specs.List.{cons_option}
+use Rattle.std.specs.Prelude.{◌⊎◌, ◌&&◌, ◌||◌, cond, is_none, nat_lt, not, option_map, slice_get}
 use Rattle.tp_base.proofs.Ends.{get_set_other, get_set_same, slice_get_push_cases}
 use Rattle.tp_base.proofs.Members.{in_left, in_right}
 use Rattle.tp_base.specs.Lists.{IsIn}
@@ -11,14 +12,17 @@ use Rattle.tp_base.specs.declared.names.ActorName.TheVariants.{Process, Executor
 use Rattle.tp_base.specs.declared.names.Site.{Site}
 use Rattle.tp_bits.specs.Bits.{AreBits}
 use Rattle.tp_netbook.proofs.Starts.{got_map}
-use Rattle.tp_netbook.specs.Netbook.{AreListed, AreReady, AreReadyBut, IsListed, Lists, Turns, differs, has_no_line, home_of, is_ready, line_due, lives, turned, watch_of}
+use Rattle.tp_netbook.specs.Netbook.{AreListed, AreReady, AreReadyBut, IsListed, Lists, Turns, differs, due_items, has_no_line, home_of, is_ready, line_due, line_item, lives, turned, watch_of}
 use Rattle.tp_netbook.specs.Outputs.{passed}
 use Rattle.tp_netbook.specs.Places.{place_of_site}
 use Rattle.tp_netbook.specs.declared.netbook.Netbook.{Netbook}
 use Rattle.tp_netbook.specs.declared.output.Inbox.{Inbox}
 use Rattle.tp_netbook.specs.declared.output.Output.{Output}
 use Rattle.tp_netbook.specs.declared.watch.Watch.{Watch}
+use Rattle.tp_rules.specs.Pending.{inner_item}
 use Rattle.tp_rules.specs.declared.event.Event.{Event}
+use Rattle.tp_rules.specs.declared.event.Inner.{Inner}
+use Rattle.tp_rules.specs.declared.event.Item.{Item}
 
 -- who is free
 
@@ -80,6 +84,38 @@ module _ (old new : Netbook) (s : Site) (place : ℕ) (w w' : Watch) (is : place
           inl (ap (λ (o : Option Watch). lives o && true) (now q here) ∙ ap (λ (b : Bool). b && true) live ∙ ap (λ (o : Option Watch). lives o && true) (sym (then q here)))
       | inr apart ↦ inl (ap (λ (o : Option Watch). lives o && true) (other q apart))
     ]
+
+-- as many lines are due where a watch is written that has turned in nothing
+
+item_there : (w : Watch) → is_none (line_item w) ≡ (not w.live || is_none (line_due w))
+item_there w = by w.live (line_due w)
+  where
+    by : (live : Bool) (due : Option Inner) → is_none (cond live (inner_item (Process w.site) due) None) ≡ (not live || is_none due)
+    by true None = refl
+    by true (Some inner) = refl
+    by false due = refl
+
+pub due_kept : (ws : List Watch) (k : ℕ) (w w' : Watch) → slice_get ws k ≡ Some w → turned w w' ≡ false → length (due_items (set ws k w')) ≡ length (due_items ws)
+due_kept ws k w w' at still = same_many ws k at
+  where
+    alike : is_none (line_item w') ≡ is_none (line_item w)
+    alike =
+        let parts = neither (differs w.live w'.live) (differs (is_none (line_due w)) (is_none (line_due w'))) still in
+        item_there w' ∙ ap (λ (b : Bool). not b || is_none (line_due w')) (not_differs w.live w'.live parts.0)
+        ∙ ap (λ (b : Bool). not w.live || b) (not_differs (is_none (line_due w)) (is_none (line_due w')) parts.1) ∙ sym (item_there w)
+
+    both : (o p : Option Item) (l m : List Item) → is_none o ≡ is_none p → length l ≡ length m → length (cons_option o l) ≡ length (cons_option p m)
+    both None None l m e many = many
+    both None (Some y) l m e many = absurd cc
+    both (Some x) None l m e many = absurd cc
+    both (Some x) (Some y) l m e many = ap (λ (n : ℕ). suc n) many
+
+    same_many : (ws : List Watch) (k : ℕ) → slice_get ws k ≡ Some w → length (due_items (set ws k w')) ≡ length (due_items ws)
+    same_many [] k at = refl
+    same_many (v ∷ vs) zero at =
+        let same : v ≡ w = cc in
+        both (line_item w') (line_item v) (due_items vs) (due_items vs) (alike ∙ ap (λ (x : Watch). is_none (line_item x)) (sym same)) refl
+    same_many (v ∷ vs) (suc k) at = both (line_item v) (line_item v) (due_items (set vs k w')) (due_items vs) refl (same_many vs k at)
 
 pub nobody_turned : (old : Netbook) → Turns None old old
 nobody_turned old a = inl refl

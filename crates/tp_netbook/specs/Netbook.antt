@@ -87,8 +87,11 @@ is_undue book (Session s) = true
 abbrev pub is_free : Netbook → ActorName → Bool
 is_free book a = is_alive book a && is_undue book a
 
+abbrev pub due_items : List Watch → List Item
+due_items watches = filter_map line_item watches
+
 abbrev pub lines : Netbook → List Item
-lines book = filter_map line_item book.sites.items
+lines book = due_items book.sites.items
 
 -- an output may be delivered or lost now
 abbrev pub is_ready : Netbook → Output → Bool
@@ -142,6 +145,7 @@ pub record IsNetbook (script : Script) (journal : List Entry) (book : Netbook) :
   pub inboxes : length book.inboxes.items ≡ length (sites_of script)
   pub listed : AreListed book
   pub ready : AreReady book
+  pub due : book.due ≡ length (lines book)
   pub entries : book.entries ≡ length journal
 
 -- how an entry changes it
@@ -207,6 +211,7 @@ pub record KeepsRest (old new : Netbook) : Type 0 where
   pub roster : new.roster ≡ old.roster
   pub fates : new.fates ≡ old.fates
   pub starts : new.starts ≡ old.starts
+  pub due : new.due ≡ old.due
   pub entries : new.entries ≡ old.entries
 
 -- the marks and the inboxes stay right

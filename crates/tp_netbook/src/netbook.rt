@@ -1,7 +1,7 @@
 ghost use Rattle.std.specs.Option.{option_copied};
 ghost use Rattle.std.specs.Prelude.{◌≡◌, ◌<◌, ◌+◌, ◌^◌, ◌++◌, ◌∷◌, [], Bool, List, length, map, reverse, slice_get, IfOk, OnOk};
 ghost use Rattle.tp_bits.specs.Bits.{AreBits};
-ghost use Rattle.tp_netbook.specs.Netbook.{Adds, AreCounted, AreNext, ArePlaced, AreReady, AreReadyBut, AreWatches, IsNetbook, KeepsMarks, KeepsRest, Lists, Turns, deliveries, home_of, is_alive, is_free, is_ready, is_undue, lines, marked, own_item, own_items, watch_of};
+ghost use Rattle.tp_netbook.specs.Netbook.{Adds, AreCounted, AreNext, ArePlaced, AreReady, AreReadyBut, AreWatches, IsNetbook, KeepsMarks, KeepsRest, Lists, Turns, deliveries, due_items, home_of, is_alive, is_free, is_ready, is_undue, lines, marked, own_item, own_items, watch_of};
 ghost use Rattle.tp_netbook.specs.Outputs.{passed};
 ghost use Rattle.tp_rules.specs.Journal.{numbered};
 ghost use Rattle.tp_rules.specs.Pending.{pending, sites_of};
@@ -36,6 +36,8 @@ pub struct Netbook {
     starts: Vec<usize>,
     inboxes: Vec<Inbox>,
     ready: Bits,
+    // How many plan lines are due.
+    due: usize,
     entries: u64,
 }
 
@@ -46,10 +48,12 @@ impl Netbook {
         ensures { IfOk result (IsNetbook script.now []) }
     {
         let sites = sites_of(alloc, script)?;
+        let watches = watches(alloc, script, sites.as_slice())?;
         Ok(Netbook {
             topology: script.topology,
             roster: roster(alloc, script, sites.as_slice())?,
-            sites: watches(alloc, script, sites.as_slice())?,
+            due: count_due(&watches),
+            sites: watches,
             fates: Fates::new(alloc, script.plan.as_slice())?,
             routes: Routes::new(alloc),
             outputs: Vec::new(alloc),
@@ -64,7 +68,7 @@ impl Netbook {
     pub fn pending(&self, next: &[Option<Inner>]) -> u64
         ensures { (script : ScriptValue) (journal : List EntryValue) → IsNetbook script journal self.now → IsAccepted script → IsRun script journal → AreNext script journal next.now → result ≡ length (pending script (reverse journal)) }
     {
-        let others = self.count_lines().saturating_add(self.count_own(next));
+        let others = self.due.saturating_add(self.count_own(next));
         self.count_deliveries().saturating_add(others as u64)
     }
 
@@ -76,7 +80,7 @@ impl Netbook {
         if let Some(line) = self.line(index) {
             return Some(line);
         }
-        let index = index.saturating_sub(self.count_lines());
+        let index = index.saturating_sub(self.due);
         if let Some(delivery) = self.delivery(index) {
             return Some(delivery);
         }
@@ -134,15 +138,12 @@ impl Netbook {
         self.is_alive(actor) && self.is_undue(actor)
     }
 
-    fn count_lines(&self) -> usize
-        ensures { result ≡ length (lines self.now) }
-    {
-        self.sites.iter().filter_map(|watch| watch.item()).count()
-    }
-
     fn line(&self, index: usize) -> Option<Item>
-        ensures { result ≡ slice_get (lines self.now) index }
+        ensures { self.now.due ≡ length (lines self.now) → result ≡ slice_get (lines self.now) index }
     {
+        if index >= self.due {
+            return None;
+        }
         let mut left = index;
         for watch in &self.sites {
             if let Some(item) = watch.item() {
@@ -275,6 +276,7 @@ impl Netbook {
     fn count(&mut self, actor: ActorName, event: Event) -> Option<usize>
         ensures sites { AreCounted actor event self.old self.old.sites.items self.new.sites.items }
         ensures turned { Turns result self.old self.new }
+        ensures due { self.old.due ≡ length (lines self.old) → self.new.due ≡ length (lines self.new) }
         ensures topology { self.new.topology ≡ self.old.topology }
         ensures outputs { self.new.outputs ≡ self.old.outputs }
         ensures starts { self.new.starts ≡ self.old.starts }
@@ -293,6 +295,7 @@ impl Netbook {
             return None;
         }
         if self.sites[place].enter(event) {
+            self.due = count_due(&self.sites);
             Some(place)
         } else {
             None
@@ -340,6 +343,13 @@ impl Netbook {
         list(&mut self.inboxes, home, place)?;
         Ok(())
     }
+}
+
+/// How many lines are due.
+fn count_due(sites: &[Watch]) -> usize
+    ensures { result ≡ length (due_items sites.now) }
+{
+    sites.iter().filter_map(|watch| watch.item()).count()
 }
 
 /// The place of an actor's site, if it is at one.

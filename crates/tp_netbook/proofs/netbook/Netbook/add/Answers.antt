@@ -45,6 +45,7 @@ loop-i-preserved c =
         roster = kept.roster ∙ keeps.roster;
         fates = kept.fates ∙ keeps.fates;
         starts = kept.starts ∙ keeps.starts;
+        due = kept.due ∙ keeps.due;
         entries = kept.entries ∙ keeps.entries;
       };
     }

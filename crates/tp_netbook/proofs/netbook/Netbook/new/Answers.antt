@@ -1,7 +1,9 @@
-use Rattle.std.proofs.Common.{refl, subst, ap, ◌∙◌, length}
+use Rattle.std.proofs.Common.{List, refl, subst, ap, ◌∙◌, length}
 use Rattle.tp_netbook.proofs.Marks.{none_ready}
 use Rattle.tp_netbook.proofs.Turned.{none_listed}
 use Rattle.tp_netbook.specs.Fates.{AreFates}
+use Rattle.tp_netbook.specs.Netbook.{due_items}
+use Rattle.tp_netbook.specs.declared.watch.Watch.{Watch}
 use Rattle.tp_netbook.specs.declared.netbook.Netbook.{Netbook}
 use Rattle.tp_netbook.proofs.netbook.Netbook.new.Goals as goal
 
@@ -9,7 +11,7 @@ pub returns : goal.returns
 returns c =
     let book : Netbook = record {
       topology = c.args.script.now.topology;
-      sites = c.in_ok-watches.field-0;
+      sites = c.in_ok-watches.watches;
       roster = c.in_ok-roster.field-0;
       fates = c.in_ok-new.field-0;
       routes = c.new-2.result;
@@ -17,6 +19,7 @@ returns c =
       starts = c.new-4.result;
       inboxes = c.in_ok-inboxes.field-0;
       ready = c.new-5.result;
+      due = c.count_due.result;
       entries = 0;
     } in
     record {
@@ -30,5 +33,6 @@ returns c =
       inboxes = c.in_ok-inboxes.ensures ∙ ap length c.as_slice-4.ensures.value ∙ ap length c.in_ok-sites.ensures;
       listed = none_listed book c.new-3.ensures.items;
       ready = none_ready book c.new-3.ensures.items c.new-5.ensures;
+      due = c.count_due.ensures ∙ ap (λ (l : List Watch). length (due_items l)) c.deref.ensures.value;
       entries = refl;
     }

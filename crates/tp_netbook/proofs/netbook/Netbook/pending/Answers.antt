@@ -3,5 +3,5 @@ use Rattle.tp_netbook.proofs.netbook.Netbook.pending.Goals as goal
 
 pub returns : goal.returns
 returns c = λ script journal is accepted run are.
-    all_counted script journal c.args.self.now is accepted run c.args.next.now are c.count_lines.result c.count_deliveries.result c.count_own.result _ _
-    c.count_lines.ensures (c.count_deliveries.ensures.count is.ready) c.count_own.ensures (c.count_deliveries.ensures.few is.ready) c.saturating_add-others.ensures c.saturating_add.ensures
+    all_counted script journal c.args.self.now is accepted run c.args.next.now are c.args.self.now.due c.count_deliveries.result c.count_own.result _ _
+    is.due (c.count_deliveries.ensures.count is.ready) c.count_own.ensures (c.count_deliveries.ensures.few is.ready) c.saturating_add-others.ensures c.saturating_add.ensures
