@@ -1,19 +1,16 @@
 -- A stamp that a process tells or knows of was decided. Used for the final stamps.
-use Rattle.std.proofs.Common.{◌≡◌, ℕ, inl, inr, true, List, [], ◌∷◌, Option, Some, refl, sym, ap, ◌∙◌, subst}
+use Rattle.std.proofs.Common.{◌≡◌, ℕ, inl, inr, true, List, [], ◌∷◌, Some, refl, sym, subst}
 use Rattle.tp_base.proofs.Members.{in_either}
 use Rattle.tp_base.specs.Lists.{IsIn}
-use Rattle.tp_base.specs.declared.names.ActorName.{ActorName}
 use Rattle.tp_base.specs.declared.names.ActorName.TheVariants.{Process}
 use Rattle.tp_base.specs.declared.names.CommandId.{CommandId}
 use Rattle.tp_base.specs.declared.names.PartitionId.{PartitionId}
 use Rattle.tp_base.specs.declared.names.Site.{Site}
 use Rattle.tp_base.specs.declared.names.Stamp.{Stamp}
 use Rattle.tp_ops.specs.declared.command.Command.{Command}
-use Rattle.tp_rules.proofs.ActsMore.{acts_step}
 use Rattle.tp_rules.proofs.sent.SendsOfProcess.{stamp}
-use Rattle.tp_rules.specs.Acts.{Act}
 use Rattle.tp_rules.specs.Addresses.{is_site_of}
-use Rattle.tp_rules.specs.Journal.{act_of, acts, IsSent}
+use Rattle.tp_rules.specs.Journal.{acts, IsSent}
 use Rattle.tp_rules.specs.Process.{state_after}
 use Rattle.tp_rules.specs.Runs.{IsFreeHistory, outputs_by}
 use Rattle.tp_rules.specs.Sheet.{Sheet, ring_rule, stamp_of}
@@ -25,7 +22,7 @@ use Rattle.tp_wire.specs.declared.message.Message.{Message}
 use Rattle.tp_facts.proofs.RunFacts.{FactsAt, run_holds}
 use Rattle.tp_facts.proofs.Facts.{WasTaken, IsLearned, DecidedItself, sent_by}
 use Rattle.tp_facts.proofs.Commands.{command_in, command_in_names}
-use Rattle.tp_facts.proofs.Senders.{IsOfProcess, sender_of}
+use Rattle.tp_facts.proofs.Senders.{IsOfProcess, acts_send, sender_of}
 use Rattle.tp_facts.proofs.Deliveries.{took_sent, sent_before}
 use Rattle.tp_facts.proofs.Consequences.{sender}
 use Rattle.tp_agreement.proofs.Decisions.{Decided, fast_path, slow_path}
@@ -35,21 +32,10 @@ use Rattle.tp_agreement.proofs.Moment.{IsRank, Moment, SentBy, acts_of, command,
 -- what a process sent by its acts was sent
 pub acts_are_sent : (script : Script) (older : List Entry) → IsFreeHistory script older → (k : Site) (n : Message)
     → IsIn n (sent_by (ring_rule script.topology) k (acts older (Process k))) → IsSent older n
-acts_are_sent script [] history k n there = absurd there
-acts_are_sent script (e ∷ older) history k n there =
-    let earlier : List Message = sent_by (ring_rule script.topology) k (acts older (Process k)) in
-    let rest : IsIn n earlier → IsSent older n = acts_are_sent script older history.0 k n in
-    acts_step (λ (list : List Act). IsIn n (sent_by (ring_rule script.topology) k list) → IsSent (e ∷ older) n)
-    older e (Process k) (λ h. inr (rest h))
-    (λ act same is h. elim (in_either (outputs_by script older (Process k) (Some act)) earlier n h) [
-      | inl new ↦
-          let outputs : e.outputs ≡ outputs_by script older (Process k) (Some act) =
-          history.1.outputs
-          ∙ ap (λ (a : ActorName). outputs_by script older a (act_of older e.event)) same
-          ∙ ap (λ (o : Option Act). outputs_by script older (Process k) o) is in
-          inl (subst (IsIn n) (sym outputs) new)
-      | inr old ↦ inr (rest old)
-    ]) there
+acts_are_sent script older history k =
+    acts_send script (Process k) (sent_by (ring_rule script.topology) k) (λ n there. there)
+    (λ before act n there. in_either (outputs_by script before (Process k) (Some act))
+    (sent_by (ring_rule script.topology) k (acts before (Process k))) n there) older history
 
 -- what a process keeps of the moment's command, in whatever partition it is
 abbrev pub sheet_at_site : Moment → Site → Sheet

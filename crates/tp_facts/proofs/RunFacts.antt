@@ -64,12 +64,12 @@ body_genuine script of one from to (MRecAck id t made a b) range ours = (tt, ran
 body_genuine script of one from to (MCommitted c t) range ours = (one c ours, tt)
 body_genuine script of one from to _ range ours = (tt, tt)
 
-act_genuine : (script : Script) (of : CommandId → Command) → NamesCommands script of → (act : Act) → IsFitAct script act
+pub act_genuine : (script : Script) (of : CommandId → Command) → NamesCommands script of → (act : Act) → IsFitAct script act
     → IsGenuine of act
 act_genuine script of one (Took m) fit = body_genuine script of one m.from m.to m.body fit.range fit.ours
 act_genuine script of one (Did inner) fit = tt
 
-site_here : (script : Script) (me : Site) → IsShape script.topology → is_site_of script.topology me ≡ true
+pub site_here : (script : Script) (me : Site) → IsShape script.topology → is_site_of script.topology me ≡ true
     → IsHere (ring_rule script.topology) me
 site_here script me shape is =
     let both = site_is script.topology me is in

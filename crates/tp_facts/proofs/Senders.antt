@@ -1,9 +1,6 @@
 -- Who sent a message: the actor that it names, each sort of actor its own kinds, and a process by its acts.
 -- Used wherever a proof goes from a message that was sent to what its sender keeps.
-use Rattle.std.proofs.Common.{◌≡◌, Bool, true, false, List, [], Option, Some, None, refl, sym, subst}
-use Rattle.std.proofs.Common.{◌≡◌, inl, inr, true, List, [], ◌∷◌, refl, sym, ◌∙◌, subst}
-use Rattle.std.proofs.Common.{◌≡◌, inl, inr, List, [], ◌∷◌, Option, Some, sym, subst, true, None, refl, ◌∙◌}
-use Rattle.std.proofs.lemmas.Bool.{cond_both}
+use Rattle.std.proofs.Common.{◌≡◌, ◌⊎◌, Bool, inl, inr, true, false, List, [], ◌∷◌, Option, Some, None, refl, sym, ap, ◌∙◌, subst}
 use Rattle.std.proofs.lemmas.Bool.{cond_both}
 use Rattle.std.specs.Prelude.{◌&&◌}
 use Rattle.tp_base.proofs.Each.{each_in}
@@ -24,7 +21,6 @@ use Rattle.tp_rules.specs.Acts.{Act, Client, Took, Did}
 use Rattle.tp_rules.specs.Acts.{Act, Took, Did, Client}
 use Rattle.tp_rules.specs.Acts.{Took}
 use Rattle.tp_rules.specs.Addresses.{is_name_of, is_body_at}
-use Rattle.tp_rules.specs.Addresses.{is_site_of}
 use Rattle.tp_rules.specs.Addresses.{is_site_of}
 use Rattle.tp_rules.specs.Executor as executor
 use Rattle.tp_rules.specs.Journal.{act_of, acts, client_of, is_known, IsSent}
@@ -220,3 +216,22 @@ module _ (script : Script) where
   sent_by_process (e ∷ older) history me m (inl here) from =
       let by = output_sender script older e m history.1 here in
       output_by_process older e me m history.1 (sym by.0 ∙ from) here
+
+-- what an actor sends by its acts was sent: S are the messages of a list of acts, those of the newest act and those before
+pub acts_send : (script : Script) (a : ActorName) (S : List Act → List Message) → ((n : Message) → IsIn n (S []) → ⊥)
+    → ((older : List Entry) (act : Act) (n : Message) → IsIn n (S (act ∷ acts older a))
+    → IsIn n (outputs_by script older a (Some act)) ⊎ IsIn n (S (acts older a)))
+    → (older : List Entry) → IsFreeHistory script older → (n : Message) → IsIn n (S (acts older a)) → IsSent older n
+acts_send script a S none newest [] history n there = absurd (none n there)
+acts_send script a S none newest (e ∷ older) history n there =
+    let rest : IsIn n (S (acts older a)) → IsSent older n = acts_send script a S none newest older history.0 n in
+    acts_step (λ (list : List Act). IsIn n (S list) → IsSent (e ∷ older) n) older e a (λ h. inr (rest h))
+    (λ act same is h. elim (newest older act n h) [
+      | inl new ↦
+          let outputs : e.outputs ≡ outputs_by script older a (Some act) =
+          history.1.outputs
+          ∙ ap (λ (b : ActorName). outputs_by script older b (act_of older e.event)) same
+          ∙ ap (λ (o : Option Act). outputs_by script older a o) is in
+          inl (subst (IsIn n) (sym outputs) new)
+      | inr old ↦ inr (rest old)
+    ]) there

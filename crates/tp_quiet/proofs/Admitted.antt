@@ -67,9 +67,6 @@ from_named script (e ∷ older) history m (inl here) =
     named (Executor s) h = h
     named (Session s) h = refl
 
-same_partition : (a b : Site) → Process a ≡ Process b → a.partition.0 ≡ b.partition.0
-same_partition a b e = ap partition_of e
-
 module _ (script : Script) (accepted : IsAccepted script) where
   abbrev of : CommandId → Command
   of = command_in script.commands

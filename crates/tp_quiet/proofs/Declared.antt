@@ -1,7 +1,7 @@
 -- What an executor declared it told the executors of the other partitions, and what it executed it told the session.
 -- Each act keeps this.
 -- Used for the executors and sessions in a run in which nothing is pending.
-use Rattle.std.proofs.Common.{◌≡◌, ℕ, inl, inr, true, List, [], ◌∷◌, ◌++◌, Option, Some, None, refl, sym, ap, subst, ◌∙◌}
+use Rattle.std.proofs.Common.{◌≡◌, ℕ, inl, inr, true, List, [], ◌∷◌, ◌++◌, Option, Some, None, refl, sym, subst}
 use Rattle.std.specs.Prelude.{not}
 use Rattle.std.specs.List.{flat_map}
 use Rattle.tp_base.proofs.Members.{flat_in, has_in, in_has, in_left, in_right, in_either, map_in}
@@ -13,16 +13,16 @@ use Rattle.tp_base.specs.declared.names.ActorName.{ActorName}
 use Rattle.tp_base.specs.declared.names.ActorName.TheVariants.{Executor, Session}
 use Rattle.tp_base.specs.declared.names.CommandId.{CommandId}
 use Rattle.tp_base.specs.declared.names.Site.{Site}
+use Rattle.tp_facts.proofs.Senders.{acts_send}
 use Rattle.tp_ops.specs.declared.operation.Answer.{Answer}
 use Rattle.tp_order.proofs.EntryKinds.{IsQuiet, message_is_quiet}
-use Rattle.tp_rules.proofs.ActsMore.{acts_step}
 use Rattle.tp_rules.proofs.lists.Tallies.{filter_in}
 use Rattle.tp_rules.proofs.ends.Unexecuted.{least_in}
 use Rattle.tp_rules.proofs.lists.UpTo.{in_up_to}
 use Rattle.tp_rules.specs.Acts.{Act, Took, Did}
 use Rattle.tp_rules.specs.Addresses.{executors_of, message, others_accessed, site}
 use Rattle.tp_rules.specs.Executor.{Committed, ExecutorState, Step, declarations, declare_least, execute_least, least, react, state_after, waiting}
-use Rattle.tp_rules.specs.Journal.{IsSent, act_of, acts}
+use Rattle.tp_rules.specs.Journal.{IsSent, acts}
 use Rattle.tp_rules.specs.Runs.{IsFreeHistory, outputs_by}
 use Rattle.tp_rules.specs.declared.event.Entry.{Entry}
 use Rattle.tp_rules.specs.declared.event.Inner.TheVariants.{Declare, Execute}
@@ -43,21 +43,10 @@ executor_sent shape me (act ∷ before) = (react shape me act
 pub executor_acts_are_sent : (script : Script) (older : List Entry) → IsFreeHistory script older
     → (k : Site) (n : Message)
     → IsIn n (executor_sent script.topology k (acts older (Executor k))) → IsSent older n
-executor_acts_are_sent script [] history k n there = absurd there
-executor_acts_are_sent script (e ∷ older) history k n there =
-    let earlier : List Message = executor_sent script.topology k (acts older (Executor k)) in
-    let rest : IsIn n earlier → IsSent older n = executor_acts_are_sent script older history.0 k n in
-    acts_step (λ (list : List Act). IsIn n (executor_sent script.topology k list) → IsSent (e ∷ older) n)
-    older e (Executor k) (λ h. inr (rest h))
-    (λ act same is h. elim (in_either (outputs_by script older (Executor k) (Some act)) earlier n h) [
-      | inl new ↦
-          let outputs : e.outputs ≡ outputs_by script older (Executor k) (Some act) =
-          history.1.outputs
-          ∙ ap (λ (a : ActorName). outputs_by script older a (act_of older e.event)) same
-          ∙ ap (λ (o : Option Act). outputs_by script older (Executor k) o) is in
-          inl (subst (IsIn n) (sym outputs) new)
-      | inr old ↦ inr (rest old)
-    ]) there
+executor_acts_are_sent script older history k =
+    acts_send script (Executor k) (executor_sent script.topology k) (λ n there. there)
+    (λ before act n there. in_either (outputs_by script before (Executor k) (Some act))
+    (executor_sent script.topology k (acts before (Executor k))) n there) older history
 
 module _ (shape : Shape) (me : Site) where
   -- a declared command is a committed one, and each executor of the others was told

@@ -4,6 +4,7 @@
 use Rattle.std.proofs.Common.{◌≡◌, ℕ, zero, suc, ◌≤◌, true, List, [], None, is_some, length, refl, sym, subst, arith}
 use Rattle.std.specs.Prelude.{reverse}
 use Rattle.tp_base.proofs.Each.{each_in, each_of}
+use Rattle.tp_base.specs.Limits.{IsFrom}
 use Rattle.tp_base.specs.Lists.{IsIn, has}
 use Rattle.tp_base.specs.Names.{same_id}
 use Rattle.tp_base.specs.declared.names.ActorName.TheVariants.{Executor, Process, Session}
@@ -24,7 +25,7 @@ use Rattle.tp_rules.proofs.ends.Unannounced.{site_listed}
 use Rattle.tp_rules.proofs.ends.Unexecuted.{executor_of}
 use Rattle.tp_rules.proofs.ends.Unsubmitted.{command_numbered, submitted_by}
 use Rattle.tp_rules.specs.Addresses.{accessed, is_site_of, message, site}
-use Rattle.tp_rules.specs.Journal.{IsSent, acts, identity_in, is_known}
+use Rattle.tp_rules.specs.Journal.{IsSent, acts, commands_of, identity_in, is_known}
 use Rattle.tp_rules.specs.Outcome.{first_result, reply_to}
 use Rattle.tp_rules.specs.Pending.{IsQuiet, pending, sites_of}
 use Rattle.tp_rules.specs.Rules.{enabled}
@@ -133,3 +134,16 @@ unfolding IsRun IsQuiet IsFinished
 quiet_finished script journal accepted run quiet harmless =
     each_of (IsCommandFinished script (reverse journal)) script.commands
     (λ c ours. command_finished script accepted harmless (reverse journal) run quiet c ours)
+
+-- so no command is open
+pub all_answered : (script : Script) (journal : List Entry) → IsAccepted script → IsFinished script journal
+    → (s : SessionId) (n : ℕ) → IsFrom 1 (length (commands_of script s)) n
+    → is_some (reply_to script (reverse journal) (record { session = s; number = n })) ≡ true
+unfolding IsFinished
+all_answered script journal accepted finished s zero range = absurd (omega (arith, range.0))
+all_answered script journal accepted finished s (suc k) range =
+    let found = command_numbered script accepted s k (omega (arith, range.1)) in
+    let named : found.0.id ≡ record { session = s; number = suc k } =
+    (λ i. record { session = found.2 i; number = found.3 i }) in
+    subst (λ (id : CommandId). is_some (reply_to script (reverse journal) id) ≡ true) named
+    (each_in (IsCommandFinished script (reverse journal)) script.commands found.0 finished found.1).answered

@@ -11,14 +11,13 @@ use Rattle.tp_base.specs.declared.names.Site.{Site}
 use Rattle.tp_facts.proofs.Commands.{command_in, command_in_names}
 use Rattle.tp_facts.proofs.Consequences.{put_of, said_of}
 use Rattle.tp_facts.proofs.Deliveries.{sent_before, took_sent}
-use Rattle.tp_facts.proofs.Facts.{HasBallot, IsGenuine, IsHere, KeepsCommand, sent_by}
+use Rattle.tp_facts.proofs.Facts.{IsGenuine, IsHere, KeepsCommand, sent_by}
 use Rattle.tp_facts.proofs.RuleTests.{ballot_put}
-use Rattle.tp_facts.proofs.RunFacts.{FactsAt, run_holds}
+use Rattle.tp_facts.proofs.RunFacts.{FactsAt, act_genuine, run_holds, site_here}
 use Rattle.tp_facts.proofs.SamePartition.{IsPeer, from_own_partition}
 use Rattle.tp_facts.proofs.Senders.{sent_by_process}
 use Rattle.tp_ops.specs.declared.command.Command.{Command}
 use Rattle.tp_rules.proofs.ActsMore.{acts_step, acts_then}
-use Rattle.tp_rules.proofs.sent.CarriedCommands.{Carries}
 use Rattle.tp_rules.proofs.sent.EachSent.{acts_pass, history_passes}
 use Rattle.tp_rules.proofs.fit.Messages.{IsBodyOf, IsFit, IsFitAct, site_is}
 use Rattle.tp_rules.proofs.fit.InRange.{fit_handed_on}
@@ -31,10 +30,9 @@ use Rattle.tp_rules.specs.Sheet.{QuorumRule, Sheet, is_made_by_proposal, ring_ru
 use Rattle.tp_rules.specs.declared.event.Entry.{Entry}
 use Rattle.tp_script.specs.Accepted.{IsAccepted}
 use Rattle.tp_script.specs.declared.script.Script.{Script}
-use Rattle.tp_topology.specs.Shape.{IsShape}
 use Rattle.tp_wire.specs.Ranges.{IsBody}
 use Rattle.tp_wire.specs.declared.message.Body.{Body}
-use Rattle.tp_wire.specs.declared.message.Body.TheVariants.{MSubmit, MPropose, MPayload, MProposeAck, MConsensus, MConsensusAck, MCommit, MRec, MRecAck, MCommitted}
+use Rattle.tp_wire.specs.declared.message.Body.TheVariants.{MPropose, MProposeAck, MConsensus, MConsensusAck, MRec, MRecAck}
 use Rattle.tp_wire.specs.declared.message.Message.{Message}
 use Rattle.tp_quiet.proofs.AllServed.{AreTakenWell, IsTakenWell}
 use Rattle.tp_quiet.proofs.AllStanding.{IsStanding, all_standing}
@@ -50,20 +48,6 @@ AreAdmitted s me [] = Unit {0}
 AreAdmitted s me (Took m ∷ before) = AreAdmitted s me before × IsAdmitted s me (state_after s me before) m
 AreAdmitted s me (Did inner ∷ before) = AreAdmitted s me before
 
--- what goes about in a run is genuine
-fit_genuine : (script : Script) → IsAccepted script → (from to : ActorName) (body : Body) → IsBody from to body
-    → IsBodyOf script body → Carries (λ c. c ≡ command_in script.commands c.id) body × HasBallot body
-fit_genuine script accepted from to (MSubmit c) range ours = (command_in_names script accepted c ours, tt)
-fit_genuine script accepted from to (MPropose c floor) range ours = (command_in_names script accepted c ours, tt)
-fit_genuine script accepted from to (MPayload c) range ours = (command_in_names script accepted c ours, tt)
-fit_genuine script accepted from to (MConsensus c t b) range ours =
-    (command_in_names script accepted c ours, range.4.0)
-fit_genuine script accepted from to (MCommit c q t) range ours = (command_in_names script accepted c ours, tt)
-fit_genuine script accepted from to (MRec c b) range ours = (command_in_names script accepted c ours, tt)
-fit_genuine script accepted from to (MRecAck id t made a b) range ours = (tt, range.5.0)
-fit_genuine script accepted from to (MCommitted c t) range ours = (command_in_names script accepted c ours, tt)
-fit_genuine script accepted from to _ range ours = (tt, tt)
-
 module _ (script : Script) (accepted : IsAccepted script) where
   abbrev of : CommandId → Command
   of = command_in script.commands
@@ -72,14 +56,7 @@ module _ (script : Script) (accepted : IsAccepted script) where
   rule = ring_rule script.topology
 
   pub is_here : (k : Site) → is_site_of script.topology k ≡ true → IsHere rule k
-  is_here k is =
-      let both = site_is script.topology k is in
-      let shape : IsShape script.topology = accepted.shape in
-      record {
-        rank = both.1;
-        partition = both.0;
-        two = omega (arith, shape.some_replicas, shape.some_failure);
-      }
+  is_here k is = site_here script k accepted.shape is
 
   pub fits : (older : List Entry) → IsFreeHistory script older → (a : ActorName)
       → Each (IsFitAct script) (acts older a)
@@ -87,14 +64,11 @@ module _ (script : Script) (accepted : IsAccepted script) where
       acts_pass script (IsFit script) older a
       (history_passes script (IsFit script) (fit_handed_on script accepted) older history)
 
-  fit_act : (act : Act) → IsFitAct script act → IsGenuine of act
-  fit_act (Took m) fit = fit_genuine script accepted m.from m.to m.body fit.range fit.ours
-  fit_act (Did inner) fit = tt
-
   pub are_genuine : (older : List Entry) → IsFreeHistory script older → (k : Site)
       → Each (IsGenuine of) (acts older (Process k))
   are_genuine older history k =
-      each_weaker (IsFitAct script) (IsGenuine of) fit_act (acts older (Process k)) (fits older history (Process k))
+      each_weaker (IsFitAct script) (IsGenuine of)
+      (act_genuine script of (command_in_names script accepted)) (acts older (Process k)) (fits older history (Process k))
 
   -- a moment at which a process takes a message that was sent before
   module _ (older : List Entry) (history : IsFreeHistory script older) (k : Site)
