@@ -193,9 +193,6 @@ module _ (script : Script) (accepted : IsAccepted script) where
 
 -- all processes of the partitions that a command accesses know the stamp of each such partition, where one process does
 module _ (script : Script) (older : List Entry) (run : IsTakenIn script older) where
-  abbrev command_of_id : CommandId → Command
-  command_of_id = command_in script.commands
-
   pub all_know : (k : Site) → is_site_of script.topology k ≡ true → (id : CommandId)
       → is_accessed script.topology.partitions (command_in script.commands id) k.partition.0 ≡ true
       → Knows k.partition.0 ((process_at script run.accepted older k).sheets id)
