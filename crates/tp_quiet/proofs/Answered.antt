@@ -17,7 +17,7 @@ use Rattle.tp_base.specs.declared.names.PartitionId.{PartitionId}
 use Rattle.tp_base.specs.declared.names.SessionId.{SessionId}
 use Rattle.tp_facts.proofs.Commands.{command_is}
 use Rattle.tp_base.proofs.Ends.{got_within}
-use Rattle.tp_ops.specs.Parts.{merged}
+use Rattle.tp_ops.specs.Parts.{answers_in, merged}
 use Rattle.tp_ops.specs.declared.command.Command.{Command}
 use Rattle.tp_ops.specs.declared.operation.Answer.{Answer}
 use Rattle.tp_replies.proofs.SessionCommands.{command_at}
@@ -134,7 +134,7 @@ module _ (script : Script) (accepted : IsAccepted script) (older : List Entry)
     | inr fails ↦ absurd (
         let none : session.merged_reply shape parts (Some c) ≡ None =
         cond-false (session.is_whole shape parts (Some c))
-        (Some (merged shape.partitions c.ops (session.answers_at parts))) None fails in
+        (Some (merged shape.partitions c.ops (answers_in parts))) None fails in
         let wrong : is_some (session.merged_reply shape parts (Some c)) ≡ false =
         ap (λ (o : Option (List Answer)). is_some o) none in
         cc

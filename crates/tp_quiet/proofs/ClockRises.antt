@@ -5,6 +5,7 @@ use Rattle.std.specs.Prelude.{◌==◌, ◌&&◌, is_none, nat_le, nat_lt}
 use Rattle.std.proofs.lemmas.Bool.{cond_both, lt-ltb}
 use Rattle.tp_base.specs.Limits.{STAMP_LIMIT}
 use Rattle.tp_base.specs.Lists.{Each}
+use Rattle.tp_base.specs.Tables.{with_nth}
 use Rattle.tp_base.specs.Names.{same_name}
 use Rattle.tp_base.specs.declared.names.ActorName.{ActorName}
 use Rattle.tp_base.specs.declared.names.ActorName.TheVariants.{Process}
@@ -15,7 +16,7 @@ use Rattle.tp_choice.specs.declared.answer.RecoveryAnswer.{RecoveryAnswer}
 use Rattle.tp_facts.proofs.RuleTests.{stamp_put}
 use Rattle.tp_ops.specs.Parts.{is_accessed}
 use Rattle.tp_ops.specs.declared.command.Command.{Command}
-use Rattle.tp_paxos.specs.Votes.{PutStamp, count_votes, decision, voted_by, with_vote as with_vote_in}
+use Rattle.tp_paxos.specs.Votes.{PutStamp, count_votes, decision, voted_by}
 use Rattle.tp_quorum.specs.Choice.{fast_choice, greatest, is_fast, present}
 use Rattle.tp_quorum.specs.declared.choice.FastChoice.{FastChoice}
 use Rattle.tp_quorum.specs.declared.choice.FastChoice.TheVariants.{Fast, Slow}
@@ -116,7 +117,7 @@ module _ (n : ℕ) (s : QuorumRule) (me : Site) (state : ProcessState) (low : st
       → IfAny (λ t. t ≤ n) (decision s.shape (voted_by rank o))
   decision_low rank None le = tt
   decision_low rank (Some put) le =
-      cond_both (nat_le (slow_size s.shape) (count_votes (with_vote_in put.votes rank))) (Some put.stamp) None
+      cond_both (nat_le (slow_size s.shape) (count_votes (with_nth put.votes rank true))) (Some put.stamp) None
       (IfAny (λ t. t ≤ n)) (λ y. le) (λ no. tt)
 
   voted_rises : (id : CommandId) (o : Option ℕ) (sheet : Sheet) → IsLowTable sheet.known → IfAny (λ t. t ≤ n) o
