@@ -4,7 +4,8 @@ ghost use Rattle.tp_promise.specs.Books.{replicas_of};
 ghost use Rattle.tp_promise.specs.Pages.{AreTold};
 ghost use Rattle.tp_rules.specs.Acts.{ExecutorAt};
 ghost use Rattle.tp_rules.specs.Addresses.{is_name_of, message, others_accessed};
-ghost use Rattle.tp_rules.specs.Executor.{ExecutorState, enabled, enabled_of, is_undeclared, on_committed, on_declare, on_execute, on_inner, on_message, on_promises, on_stable};
+ghost use Rattle.tp_rules.specs.Executor.{ExecutorState, committed_ids, enabled, enabled_of, is_undeclared, on_committed, on_declare, on_execute, on_inner, on_message, on_promises, on_stable};
+ghost use Rattle.tp_topology.specs.Stability.{is_stable as is_stable_for};
 ghost use Rattle.tp_wire.specs.Ranges.{IsExecutor, IsInRange, IsProcess};
 
 use crate::addressed::{is_command_at, is_name_of};
@@ -103,6 +104,13 @@ impl Executor {
                 threshold,
             });
         }
+        self.answer_where_stable(key, command)
+    }
+
+    /// The same of a command whose stamp is stable.
+    fn answer_where_stable(&self, key: Key, command: &Command) -> Result<CommandId, Why>
+        ensures { (state : ExecutorState) → IsState self.now state → is_stable_for self.now.topology state.told (committed_ids state) key.stamp.0 ≡ true → IsAnswerFor self.now.topology self.now.site state (record { key = key; command = command.now }) result }
+    {
         if self.is_undeclared(key.id, command) {
             return Err(Why::NotDeclared);
         }
@@ -127,7 +135,7 @@ impl Executor {
         if !is_stable(&self.book, &self.topology, key.stamp) {
             return None;
         }
-        match self.answer_for(key, command) {
+        match self.answer_where_stable(key, command) {
             Ok(id) => Some(Inner::Execute(id)),
             Err(why) => match why {
                 Why::NotDeclared => Some(Inner::Declare(key.id)),
