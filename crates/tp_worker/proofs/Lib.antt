@@ -1,0 +1,6 @@
+pub mod Lower
+pub mod Since
+pub mod Steps
+pub mod Holding
+pub mod Goings
+pub mod Ends
