@@ -1,0 +1,4 @@
+pub mod Cells
+pub mod Going
+pub mod Joining
+pub mod Resting
