@@ -4,8 +4,8 @@
 use std::alloc::Global;
 use std::process::ExitCode;
 use std::{env, io};
-use tp_outside::{StdSink, StdSource};
-use tp_run::{Cause, tempo_plain};
+use tp_outside::{OpenGate, StdSink, StdSource};
+use tp_run::{Cause, tempo};
 
 fn main(rt: HostRuntime) -> ExitCode {
     let words = match words(&rt, rt.alloc()) {
@@ -17,7 +17,14 @@ fn main(rt: HostRuntime) -> ExitCode {
     };
     let mut input = StdSource::new(rt.reader());
     let mut out = StdSink::new(io::writer(&rt));
-    let finished = tempo_plain(rt.alloc(), words.as_slice(), &mut input, &mut out);
+    let finished = tempo(
+        &rt,
+        rt.alloc(),
+        words.as_slice(),
+        &mut input,
+        &mut out,
+        &OpenGate,
+    );
     match &finished.cause {
         None | Some(Cause::Verdict { .. }) => {}
         Some(cause) => {

@@ -1,13 +1,13 @@
 -- An input that was read whole, and what is due to a call, for the top call.
-use Rattle.std.proofs.Common.{false, IfErr, ◌≡◌, ℕ, ◌+◌, ◌≤◌, ◌⊎◌, inl, inr, List, refl, sym, ◌∙◌, ap, subst, length, take, Option, Some, None, Result, Ok, Err, IfOk, IfSome, OnOk}
-use Rattle.tp_driver.specs.Driving.{IsDriven}
+use Rattle.std.proofs.Common.{false, IfErr, ◌≡◌, ℕ, ◌+◌, ◌≤◌, ◌⊎◌, inl, inr, List, ◌++◌, refl, sym, ◌∙◌, ap, subst, length, take, Option, Some, None, Result, Ok, Err, IfOk, IfSome, OnOk}
+use Rattle.tp_entry.specs.Print as journals
 use Rattle.tp_print.specs.Report.{report_text}
 use Rattle.tp_print.specs.Summary.{summary_text}
 use Rattle.tp_rules.proofs.fit.InRange.{run_in_range}
 use Rattle.tp_laws.proofs.Legal.{run_legal}
 use Rattle.tp_rules.proofs.Journals.{run_is_free}
 use Rattle.tp_rules.specs.Laws.{KeepsLaws}
-use Rattle.tp_rules.specs.Runs.{AreInRange}
+use Rattle.tp_rules.specs.Runs.{AreInRange, IsRun}
 use Rattle.tp_rules.specs.declared.event.Entry.{Entry}
 use Rattle.tp_run.specs.Both.{checked_of}
 use Rattle.tp_run.specs.Calls.{runs}
@@ -16,7 +16,7 @@ use Rattle.tp_run.proofs.BothLaws.{checked_again}
 use Rattle.tp_run.proofs.TextLaws.{front_cause, unrefused_text, whole}
 use Rattle.tp_run.specs.TopCall.{IsAnswer, IsDone, IsDue, IsDueFor, IsInputFor, IsRefusal, IsRefusedFor, IsSaidBy, IsServed, IsUnchecked}
 use Rattle.tp_run.specs.declared.call.Call.{Call}
-use Rattle.tp_run.specs.declared.call.Call.TheVariants.{Step, Check, Gen, Load}
+use Rattle.tp_run.specs.declared.call.Call.TheVariants.{Run, Trace, Step, Check, Gen, Load}
 use Rattle.tp_run.specs.declared.finished.Cause.{Cause}
 use Rattle.tp_run.specs.declared.finished.Cause.TheVariants.{Words, Script as ScriptFault, Journal as JournalFault, Input, Read, Write, Memory, Verdict as Found}
 use Rattle.tp_script.specs.Accepted.{IsAccepted}
@@ -65,18 +65,18 @@ unrefused_by_whole None bytes text (Ok script) same is none = tt
 unrefused_by_whole (Some all) bytes text (Ok script) same is none = sym (front_cause all text (same ∙ is)) ∙ none
 
 -- the messages of a run of the script that was kept have bytes
-pub kept_in_range : (kept : Option Script) (script : Script) (journal : List Entry) → kept ≡ Some script → IsAccepted script → IsDriven script journal
+pub kept_in_range : (kept : Option Script) (script : Script) (journal : List Entry) → kept ≡ Some script → IsAccepted script → IsRun script journal
     → IfSome kept (λ _. AreInRange journal)
-kept_in_range None script journal e accepted driven = tt
-kept_in_range (Some s) script journal e accepted driven = run_in_range script accepted journal (run_is_free script journal driven.run)
+kept_in_range None script journal e accepted run = tt
+kept_in_range (Some s) script journal e accepted run = run_in_range script accepted journal (run_is_free script journal run)
 
 -- a run of the script that was kept keeps the laws
-pub kept_laws : (kept : Option Script) (script : Script) (journal : List Entry) → kept ≡ Some script → IsAccepted script → IsDriven script journal
+pub kept_laws : (kept : Option Script) (script : Script) (journal : List Entry) → kept ≡ Some script → IsAccepted script → IsRun script journal
     → IfSome kept (λ s. KeepsLaws s journal)
-kept_laws None script journal e accepted driven = tt
-kept_laws (Some s) script journal e accepted driven =
+kept_laws None script journal e accepted run = tt
+kept_laws (Some s) script journal e accepted run =
     let same : script ≡ s = cc in
-    subst (λ (of : Script). KeepsLaws of journal) same (run_legal script journal accepted driven.run)
+    subst (λ (of : Script). KeepsLaws of journal) same (run_legal script journal accepted run)
 
 -- what a text is refused for is due, but for a failed read and want of memory
 text_due : (left : Option (List ℕ)) (cause : Cause) → IsRefusedFor left cause → ¬ (Some cause ≡ Some Read)
@@ -112,6 +112,8 @@ check_due left Memory refused read = inr refl
 refusal_due : (call : Option Call) (left : Option (List ℕ)) (cause : Cause) → IsRefusal call left cause → ¬ (Some cause ≡ Some Read)
     → IsDue call left (Some cause) ⊎ (Some cause ≡ Some Memory)
 refusal_due None left cause refused read = inl (ap (λ (x : Cause). Some x) refused)
+refusal_due (Some Run) left cause refused read = text_due left cause refused read
+refusal_due (Some Trace) left cause refused read = text_due left cause refused read
 refusal_due (Some Step) left cause refused read = text_due left cause refused read
 refusal_due (Some Check) left cause refused read = check_due left cause refused read
 refusal_due (Some (Gen n)) left cause refused read = inr (ap (λ (x : Cause). Some x) refused)
@@ -128,6 +130,12 @@ pub served_due : (call : Option Call) (left : Option (List ℕ)) (told : Option 
     → IsDue call left told ⊎ (told ≡ Some Memory) → IsServed call told ⊎ (told ≡ Some Memory)
 served_due call left told input (inr memory) = inr memory
 served_due None left told input (inl due) = absurd input
+served_due (Some Run) left told input (inl due) =
+    let all = subst (λ (l : Option (List ℕ)). IsDue (Some Run) l told) input.told due in
+    inl (all ∙ unrefused_text input.text input.script input.short input.said)
+served_due (Some Trace) left told input (inl due) =
+    let all = subst (λ (l : Option (List ℕ)). IsDue (Some Trace) l told) input.told due in
+    inl (all ∙ unrefused_text input.text input.script input.short input.said)
 served_due (Some Step) left told input (inl due) =
     let all = subst (λ (l : Option (List ℕ)). IsDue (Some Step) l told) input.told due in
     inl (all ∙ unrefused_text input.text input.script input.short input.said)
@@ -154,6 +162,8 @@ exact_done call left script read journal before now told due same (inl done) unf
     of : (call : Option Call) → ((answer : Option Cause) (output : List ℕ) → IsAnswer call script read answer output → IsDue call left answer)
         → (runs call ≡ false → journal ≡ read) → IsAnswer call script journal told done.output → IsDue call left told
     of None due same right = absurd right
+    of (Some Run) due same right = subst (λ (a : Option Cause). IsDue (Some Run) left a) (sym right.0) (due None (report_text script read) (refl, refl))
+    of (Some Trace) due same right = subst (λ (a : Option Cause). IsDue (Some Trace) left a) (sym right.0) (due None (report_text script read ++ journals.text_of read) (refl, refl))
     of (Some Step) due same right = subst (λ (a : Option Cause). IsDue (Some Step) left a) (sym right.0) (due None (report_text script read) (refl, refl))
     of (Some Check) due same right = due told done.output (subst (λ (j : List Entry). IsAnswer (Some Check) script j told done.output) (same refl) right)
     of (Some (Gen n)) due same right = subst (λ (a : Option Cause). IsDue (Some (Gen n)) left a) (sym right.0) (due None (text_of script) (refl, refl))

@@ -3,3 +3,4 @@ pub mod Calls
 pub mod Status
 pub mod Texts
 pub mod TopCall
+pub mod Traces

@@ -1,11 +1,15 @@
 ghost use Rattle.std.specs.Prelude.{◌≡◌, bytes_eq, string_bytes};
-ghost use Rattle.tp_run.specs.Calls.{call_for, call_of};
+ghost use Rattle.tp_run.specs.Calls.{call_for, call_of, is_threaded, plain, threaded};
 
 use tp_text::number;
 
 /// What the words ask for.
 #[derive(Clone, Copy, Debug, PartialEq, Eq)]
 pub enum Call {
+    /// `run`: to run the script that is the input, each actor on a thread of its own.
+    Run,
+    /// `trace`: the same, and to print the journal too.
+    Trace,
     /// `step`: to run the script that is the input, one step at a time.
     Step,
     /// `check`: to check the journal that stands behind a script in the input.
@@ -23,7 +27,11 @@ pub fn call_of(words: &[String]) -> Option<Call>
 {
     match words {
         [word] => {
-            if is_word(word, "step") {
+            if is_word(word, "run") {
+                Some(Call::Run)
+            } else if is_word(word, "trace") {
+                Some(Call::Trace)
+            } else if is_word(word, "step") {
                 Some(Call::Step)
             } else if is_word(word, "check") {
                 Some(Call::Check)
@@ -56,4 +64,29 @@ fn is_word(word: &String, text: &str) -> bool
     ensures { result ≡ bytes_eq (string_bytes word.now) text.now }
 {
     word.as_str() == text
+}
+
+/// The call that the words are, if threads serve it.
+pub fn threaded_call(words: &[String]) -> Option<Call>
+    ensures { result ≡ threaded (call_of words.now) }
+{
+    let call = call_of(words)?;
+    if call.is_threaded() { Some(call) } else { None }
+}
+
+/// The call that the words are, if it is served without threads.
+pub fn plain_call(words: &[String]) -> Option<Call>
+    ensures { result ≡ plain (call_of words.now) }
+{
+    let call = call_of(words)?;
+    if call.is_threaded() { None } else { Some(call) }
+}
+
+impl Call {
+    /// Whether threads serve it.
+    pub fn is_threaded(&self) -> bool
+        ensures { result ≡ is_threaded self.now }
+    {
+        matches!(self, Call::Run | Call::Trace)
+    }
 }

@@ -1,7 +1,7 @@
 use Rattle.std.proofs.Common.{IfSome, List, Ok, subst, sym, ◌≡◌}
 use Rattle.tp_rules.specs.declared.event.Entry.{Entry}
 use Rattle.tp_run.proofs.BothLaws.{both_by_whole, checked_by_whole, front_is, unchecked_by_whole}
-use Rattle.tp_run.proofs.plain.read_to_check.Goals as goal
+use Rattle.tp_run.proofs.reading.read_to_check.Goals as goal
 use Rattle.tp_run.specs.Both.{IsTextOfBoth, checked_of}
 
 pub returns-in-Ok-clause-both : goal.returns-in-Ok-clause-both

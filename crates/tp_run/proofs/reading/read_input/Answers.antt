@@ -1,5 +1,5 @@
 use Rattle.tp_run.proofs.TopCalls.{all_refused_by_whole, said_by_whole, unrefused_by_whole}
-use Rattle.tp_run.proofs.plain.read_input.Goals as goal
+use Rattle.tp_run.proofs.reading.read_input.Goals as goal
 
 pub returns-clause-script : goal.returns-clause-script
 returns-clause-script g c =
