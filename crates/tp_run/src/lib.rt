@@ -15,6 +15,7 @@ mod top;
 pub use call::Call;
 pub use finished::{Cause, Finished};
 pub use plain::tempo_plain;
+pub use reading::{Given, read_to_check};
 pub use text::INPUT_LIMIT;
 pub use threaded::tempo_run;
 pub use top::tempo;

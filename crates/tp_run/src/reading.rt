@@ -90,8 +90,8 @@ fn read_input<S: Source>(alloc: Global, input: &mut S) -> Result<Script, Cause>
     read_text(alloc, bytes.as_slice())
 }
 
-// The script and the journal behind it that the whole input is. Its bytes are given up before the check.
-fn read_to_check<S: Source>(alloc: Global, input: &mut S) -> Result<Given, Cause>
+/// The script and the journal behind it that the whole input is. Its bytes are given up before the check.
+pub fn read_to_check<S: Source>(alloc: Global, input: &mut S) -> Result<Given, Cause>
     ensures both { IfOk result (λ given. IfSome (S.left input.old) (λ text. IsTextOfBoth text given.script given.journal)) }
     ensures accepted { IfOk result (λ given. IsAccepted given.script) }
     ensures ended { OnOk result (S.ended input.new × IsAtEnd (S.left input.new)) }
