@@ -1,0 +1,3 @@
+pub mod Dotted
+pub mod Growing
+pub mod Places

@@ -1,0 +1,6 @@
+pub mod About
+pub mod Laws
+pub mod Scenes
+pub mod Shapes
+pub mod Signs
+pub mod Svg

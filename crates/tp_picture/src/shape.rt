@@ -1,0 +1,46 @@
+use crate::place::Place;
+use crate::sign::Sign;
+use tp_base::{ActorName, CommandId};
+
+/// A part of a picture.
+#[derive(Clone, Copy, Debug, PartialEq, Eq)]
+pub enum Shape {
+    /// The picture's size, its classes and its legend.
+    Frame {
+        columns: usize,
+        rows: usize,
+    },
+    /// An actor's row, up to the column where it ends.
+    Row {
+        row: usize,
+        actor: ActorName,
+        end: usize,
+    },
+    /// A delivery, from the entry that sent the message to the one that delivers it.
+    Arrow {
+        sign: Sign,
+        from: Place,
+        to: Place,
+    },
+    /// A loss, from the entry that sent the message to the one that loses it.
+    Cross {
+        sign: Sign,
+        from: Place,
+        to: Place,
+    },
+    /// An entry, with its label.
+    Dot {
+        actor: ActorName,
+        sign: Option<Sign>,
+        at: Place,
+    },
+    /// A site's crash.
+    End {
+        at: Place,
+    },
+    /// A command's first execution.
+    First {
+        id: CommandId,
+        at: Place,
+    },
+}
