@@ -1,7 +1,6 @@
 -- A cell's parts between calls: when it is made, when its desk has seen more, and when its actor's entry was made. Used by the
 -- calls of a cell.
-use Rattle.std.proofs.Common.{◌≡◌, ◌≢◌, ◌+◌, ◌*◌, ◌<◌, ◌≤◌, ◌^◌, ◌&&◌, ◌==◌, ℕ, suc, inl, inr, Bool, true, false, cond, List, [], ◌∷◌, ◌++◌, Option, Some, None, length, reverse, option_map, refl, sym, ap, subst, ◌∙◌, length-append, is_err, OnOk, Result, Ok, Err, arith}
-use Rattle.std.specs.Option.{option_and_then}
+use Rattle.std.proofs.Common.{◌≡◌, ◌+◌, ◌*◌, ◌≤◌, ◌^◌, ◌&&◌, ℕ, Bool, true, false, List, [], ◌∷◌, ◌++◌, Option, Some, None, length, reverse, option_map, refl, sym, ap, subst, ◌∙◌, length-append, is_err, OnOk, Result, Ok, Err, arith}
 use Rattle.std.specs.Prelude.{position}
 use Rattle.tp_base.proofs.SameNames.{same_name_refl}
 use Rattle.tp_base.specs.Names.{same_name}
@@ -11,24 +10,22 @@ use Rattle.tp_base.specs.declared.names.Site.{Site}
 use Rattle.tp_journal.specs.Entered.{first_crash, is_crash_of}
 use Rattle.tp_netbook.specs.Inbox.{IsInbox}
 use Rattle.tp_netbook.specs.Inbox.{entries_by as told_of}
-use Rattle.tp_netbook.specs.declared.inbox.Inbox.{Inbox}
 use Rattle.tp_rules.specs.Acts.{Act, Identity}
-use Rattle.tp_rules.specs.Journal.{act_of, acts, identity_in, is_crash, with_act}
+use Rattle.tp_rules.specs.Journal.{act_of, is_crash, with_act}
 use Rattle.tp_rules.specs.Runs.{MayHappen}
 use Rattle.tp_rules.specs.declared.event.Entry.{Entry}
 use Rattle.tp_rules.specs.declared.event.Event.{Event}
 use Rattle.tp_rules.specs.declared.event.Event.TheVariants.{Deliver, Dropped, Inner as OfItself}
-use Rattle.tp_rules.specs.declared.event.Inner.{Inner}
 use Rattle.tp_rules.specs.declared.event.Inner.TheVariants.{Submit, Recover, Announce, Declare, Execute, Crash}
 use Rattle.tp_script.specs.declared.script.Script.{Script}
 use Rattle.tp_shared.proofs.Crashes.{found_later}
-use Rattle.tp_shared.specs.Histories.{crash_of, entries_by, site_of}
+use Rattle.tp_shared.specs.Histories.{crash_of, entries_by}
 use Rattle.tp_shared.specs.Known.{Known, Told, entry_of, name_of}
 use Rattle.tp_wire.specs.declared.message.Message.{Message}
 use Rattle.tp_worker.proofs.Holding.{named, own_told}
 use Rattle.tp_worker.proofs.Since.{acts_stay, told_stays}
 use Rattle.tp_worker.proofs.Steps.{up_to_next, up_to_still}
-use Rattle.tp_worker.specs.Cells.{IsCell, IsDeskOf, IsReady, IsUpTo}
+use Rattle.tp_worker.specs.Cells.{IsReady, IsUpTo}
 use Rattle.tp_worker.specs.Posts.{HasEntered, HasSeen, HasWorked, IsEndedBy, IsPost, Keeps, MayOffer, given}
 use Rattle.tp_worker.specs.declared.cell.CellState.{CellState}
 use Rattle.tp_worker.specs.declared.cell.CellState.TheVariants.{Live, Crashed, Spent}

@@ -1,17 +1,15 @@
 -- What becomes of a cell by one step after the other. Used where a cell works, and by the rounds.
-use Rattle.std.proofs.Common.{◌≡◌, ◌≢◌, ◌+◌, ◌<◌, ◌≤◌, ℕ, zero, suc, List, [], ◌∷◌, ◌++◌, Some, length, take, refl, sym, ap, subst, ◌∙◌, length-append, take_all, arith}
+use Rattle.std.proofs.Common.{◌≡◌, ◌+◌, ◌<◌, ◌≤◌, ℕ, zero, suc, List, [], ◌∷◌, ◌++◌, Some, length, take, refl, sym, ap, subst, ◌∙◌, length-append, take_all, arith}
 use Rattle.std.specs.Prelude.{slice_get, slice_index_or}
 use Rattle.atomic_table.specs.Seated.{TableId}
 use Rattle.tp_base.proofs.Each.{each_in, each_push}
 use Rattle.tp_base.proofs.Prefixes.{prefix_self, prefix_then}
-use Rattle.tp_base.specs.Lists.{Each, IsIn, IsPrefixOf}
+use Rattle.tp_base.specs.Lists.{Each}
 use Rattle.tp_netbook.proofs.Rosters.{take_next}
 use Rattle.tp_rules.specs.Acts.{Identity}
-use Rattle.tp_rules.specs.declared.event.Entry.{Entry}
 use Rattle.tp_shared.specs.Known.{Known}
 use Rattle.tp_worker.specs.Cells.{AllDone, AllGoOn, GoesOn, HasGrown, IsDone, Worker, with_more}
-use Rattle.tp_worker.specs.declared.cell.CellState.{CellState}
-use Rattle.tp_worker.specs.declared.cell.CellState.TheVariants.{Live, Crashed, Spent}
+use Rattle.tp_worker.specs.declared.cell.CellState.TheVariants.{Live}
 
 pub grown_self : (k : Known) → HasGrown k k
 grown_self k = record { same = refl; own = prefix_self k.own; seen = prefix_self k.seen }

@@ -1,6 +1,6 @@
 -- A cell's desk and inbox as the desk sees more, as the inbox is given it, and as the actor's entry is made. Used where a cell
 -- listens and where it offers.
-use Rattle.std.proofs.Common.{◌≡◌, ◌≢◌, ◌+◌, ◌*◌, ◌<◌, ◌≤◌, ◌^◌, ℕ, inl, inr, true, false, List, [], ◌∷◌, ◌++◌, Option, Some, None, drop, length, reverse, take, refl, sym, ap, subst, ◌∙◌, append_assoc, length-append, take_all, arith}
+use Rattle.std.proofs.Common.{◌≡◌, ◌+◌, ◌*◌, ◌<◌, ◌≤◌, ◌^◌, ℕ, inl, inr, true, false, List, [], ◌∷◌, ◌++◌, Option, Some, None, drop, length, reverse, take, refl, sym, ap, subst, ◌∙◌, length-append, take_all, arith}
 use Rattle.std.specs.Prelude.{IfNone}
 use Rattle.std.proofs.Math.Seq.{drop-append_seam}
 use Rattle.std.proofs.lemmas.Bool.{cases_lt}

@@ -1,58 +1,35 @@
 -- A stand-in.
-use Rattle.std.proofs.Common.{Bool, List, None, Option, Some, [], ap, append_assoc, arith, cond, false, filter, inl, inr, length, length-append, length-take-le, nat_lt, not, refl, reverse, slice_get, subst, suc, sym, take, true, zero, ℕ, ◌&&◌, ◌++◌, ◌+◌, ◌<◌, ◌==◌, ◌||◌, ◌∙◌, ◌∷◌, ◌≡◌, ◌≤◌}
-use Rattle.std.proofs.lemmas.Bool.{and_from, and_left, and_parts, and_right, cases_Bool, cond-false, cond-true, cond_both, eq-eqb, eqb-true, le-leb, le-ltb, lt-leb, lt-ltb, ltb-false, ltb-true, ne_eqb, or_from, or_left, or_right}
-use Rattle.std.proofs.lemmas.List.{append-nil, length-append, length-reverse}
-use Rattle.std.proofs.lemmas.List.Elements.{filter-append}
-use Rattle.std.specs.List.{list_any}
-use Rattle.std.specs.Prelude.{filter, filter_map, is_none, nat_le, nat_lt, not, option_map, position, slice_get, ◌&&◌, ◌==◌, ◌||◌}
+use Rattle.std.proofs.Common.{Bool, List, None, Option, Some, [], ap, arith, cond, false, filter, inl, inr, length, length-append, nat_lt, not, refl, slice_get, subst, suc, sym, true, zero, ℕ, ◌&&◌, ◌++◌, ◌+◌, ◌<◌, ◌==◌, ◌||◌, ◌∙◌, ◌∷◌, ◌≡◌}
+use Rattle.std.proofs.lemmas.Bool.{and_from, cases_Bool, cond-false, cond_both, eq-eqb, lt-ltb, ne_eqb, or_left, or_right}
+use Rattle.std.proofs.lemmas.List.{length-append}
+use Rattle.std.specs.Prelude.{filter, filter_map, nat_le, nat_lt, not, slice_get, ◌&&◌, ◌==◌, ◌||◌}
 use Rattle.tp_base.proofs.Each.{each_in, each_of}
-use Rattle.tp_base.proofs.Ends.{reverse_push, snoc_ind}
-use Rattle.tp_base.proofs.Members.{get_in, in_either, in_reversed}
-use Rattle.tp_base.proofs.Orders.{ascends_before, ascends_right}
-use Rattle.tp_base.proofs.SameNames.{same_name_is, same_name_refl}
-use Rattle.tp_base.specs.Lists.{Ascends, Each, IsIn, IsPrefixOf}
+use Rattle.tp_base.proofs.Members.{in_either}
+use Rattle.tp_base.specs.Lists.{Ascends, Each, IsIn}
 use Rattle.tp_base.specs.Names.{same_name, same_site}
 use Rattle.tp_base.specs.declared.names.ActorName.{ActorName}
 use Rattle.tp_base.specs.declared.names.ActorName.TheVariants.{Executor, Process, Session}
 use Rattle.tp_base.specs.declared.names.Site.{Site}
-use Rattle.tp_journal.specs.Entered.{first_crash, is_crash_of}
-use Rattle.tp_netbook.proofs.Outputs.{filter_like}
-use Rattle.tp_netbook.proofs.Parts.{and_true}
-use Rattle.tp_netbook.proofs.Places.{place_get, sites_get}
-use Rattle.tp_netbook.specs.Inbox.{FollowsNext, HasNoneLeft, fate_after, line_or_first, lives_yet, message_for, next_event, output_with, sent_to, waiting_among, waits}
-use Rattle.tp_netbook.specs.Netbook.{next_number}
-use Rattle.tp_netbook.specs.Outputs.{event_of, loses, output_of}
-use Rattle.tp_netbook.specs.Routes.{route_of, same_route}
-use Rattle.tp_netbook.specs.declared.inbox.Waiting.{Waiting}
-use Rattle.tp_netbook.specs.declared.output.Output.{Output}
-use Rattle.tp_rules.proofs.ends.DeliveriesLeft.{deliveries_stay}
-use Rattle.tp_rules.proofs.fit.InRange.{sent_known}
-use Rattle.tp_rules.proofs.Journals.{acts_of_others, sent_more}
 use Rattle.tp_rules.proofs.OwnSteps.{executor_may, process_may, session_may}
-use Rattle.tp_rules.proofs.sent.Parcels.{fate_stays, numbered_parts, output_sent, parcel, sent_output, sent_within}
-use Rattle.tp_rules.proofs.lists.Tallies.{filter_in, filter_no, filter_none, filter_yes, in_filter}
-use Rattle.tp_rules.specs.Acts.{Act, Did, Took}
-use Rattle.tp_rules.specs.Journal.{acts, client_of, has_crashed, identity_in, is_crash, is_delivery_of, is_known, is_live, is_loss_of, numbered, output_at, sent}
-use Rattle.tp_rules.specs.Pending.{actors_of, due_item, event_by, inner_item, is_waiting, item, own_item, parcel_item, pending, sites_of}
-use Rattle.tp_rules.specs.Plan.{Fate, Lost, Planned, Times, asked_of, by_time, deliveries, deliveries_left, due, due_of, entries_of, fate_by, fate_of, if_due, is_counted_to, is_planned, left_by, ordinal_of, plan_of, put_in, was_lost}
-use Rattle.tp_rules.specs.Rules.{MayMake, enabled, outputs_of}
-use Rattle.tp_rules.specs.Runs.{FollowsFate, FollowsLine, FollowsRules, IsFor, IsFreeHistory, IsHistory, IsLegal, IsLost, IsRun, MayHappen, outputs_by, outputs_in}
+use Rattle.tp_rules.proofs.sent.Parcels.{numbered_parts, output_sent, parcel, sent_within}
+use Rattle.tp_rules.proofs.lists.Tallies.{filter_in, filter_no, filter_yes}
+use Rattle.tp_rules.specs.Journal.{acts, client_of, has_crashed, identity_in, is_crash, is_live, numbered, output_at, sent}
+use Rattle.tp_rules.specs.Plan.{Planned, asked_of, by_time, due, entries_of, if_due, is_planned, plan_of, put_in}
+use Rattle.tp_rules.specs.Rules.{MayMake, enabled}
+use Rattle.tp_rules.specs.Runs.{IsFreeHistory}
 use Rattle.tp_rules.specs.Sheet.{ring_rule}
 use Rattle.tp_rules.specs.declared.event.Entry.{Entry}
-use Rattle.tp_rules.specs.declared.event.Event.{Event}
-use Rattle.tp_rules.specs.declared.event.Event.TheVariants.{Deliver, Dropped, Inner as OfItself}
+use Rattle.tp_rules.specs.declared.event.Event.TheVariants.{Inner as OfItself}
 use Rattle.tp_rules.specs.declared.event.Inner.{Inner}
 use Rattle.tp_rules.specs.declared.event.Inner.TheVariants.{Announce, Crash, Declare, Execute, Recover, Submit}
-use Rattle.tp_rules.specs.declared.event.Item.{Item}
 use Rattle.tp_rules.specs.declared.event.Parcel.{Parcel}
 use Rattle.tp_script.specs.Accepted.{IsAccepted}
 use Rattle.tp_script.specs.declared.script.PlanLine.{PlanLine}
 use Rattle.tp_script.specs.declared.script.PlanLine.TheVariants.{Crash as CrashLine, Lose, Recover as RecoverLine, Repeat, RepeatAll}
 use Rattle.tp_script.specs.declared.script.Script.{Script}
-use Rattle.tp_shared.proofs.Crashes.{nowhere_passes}
 use Rattle.tp_shared.proofs.Shown.{by_append, nothing_more}
-use Rattle.tp_shared.specs.Fetched.{is_for, parcels_for}
-use Rattle.tp_shared.specs.Histories.{MayFollow, crash_of, entries_by}
+use Rattle.tp_shared.specs.Fetched.{is_for}
+use Rattle.tp_shared.specs.Histories.{entries_by}
 use Rattle.tp_wire.specs.declared.message.Message.{Message}
 use Rattle.tp_rules.specs.Executor as executor
 use Rattle.tp_rules.specs.Process as process

@@ -1,15 +1,15 @@
 -- A journal to which others added entries: what an actor did, what it was sent, and what it may enter. Used where a desk fetches
 -- and where it enters.
-use Rattle.std.proofs.Common.{◌≡◌, ◌≢◌, ◌+◌, ◌*◌, ◌<◌, ◌≤◌, ◌^◌, ◌&&◌, ℕ, suc, inl, inr, Bool, true, false, List, [], ◌∷◌, ◌++◌, Option, Some, None, filter, length, reverse, take, nat_lt, refl, sym, ap, subst, ◌∙◌, append_assoc, length-append, length-take-le, take-append-drop, take_all, arith}
+use Rattle.std.proofs.Common.{◌≡◌, ◌<◌, ◌≤◌, ◌&&◌, ℕ, suc, inl, inr, Bool, true, List, [], ◌∷◌, ◌++◌, Option, Some, None, filter, length, reverse, take, nat_lt, refl, sym, ap, subst, ◌∙◌, append_assoc, length-append, length-take-le, take-append-drop, take_all, arith}
 use Rattle.std.specs.Prelude.{◌==◌, ◌||◌, drop, option_map}
 use Rattle.std.proofs.lemmas.Bool.{and_parts, cases_Bool, eqb-true, ltb-true, not_from_false}
-use Rattle.std.proofs.lemmas.List.{append-nil, length-reverse}
+use Rattle.std.proofs.lemmas.List.{append-nil}
 use Rattle.std.proofs.lemmas.List.Elements.{filter-append}
 use Rattle.tp_base.proofs.Ends.{reverse_push, snoc_ind}
 use Rattle.tp_base.proofs.Each.{each_weaker}
 use Rattle.tp_base.proofs.Prefixes.{prefix_then}
 use Rattle.tp_base.proofs.SameNames.{same_name_refl}
-use Rattle.tp_base.specs.Lists.{Ascends, Each, IsIn, IsPrefixOf}
+use Rattle.tp_base.specs.Lists.{Ascends, IsPrefixOf}
 use Rattle.tp_base.specs.Names.{same_name}
 use Rattle.tp_base.specs.declared.names.ActorName.{ActorName}
 use Rattle.tp_worker.proofs.Lower.{ascends_filter, found_before, is_before, late, first_none, lived, sent_ascends}
@@ -17,7 +17,7 @@ use Rattle.tp_netbook.specs.Inbox.{elsewhere, sent_to}
 use Rattle.tp_netbook.specs.Inbox.{entries_by as told_of}
 use Rattle.tp_rules.proofs.Journals.{acts_here, acts_other, sent_more}
 use Rattle.tp_rules.proofs.lists.Tallies.{filter_no, filter_yes}
-use Rattle.tp_rules.specs.Acts.{Act, Took}
+use Rattle.tp_rules.specs.Acts.{Took}
 use Rattle.tp_rules.specs.Journal.{act_of, acts, is_live, numbered, output_at, sent, with_act}
 use Rattle.tp_rules.specs.Runs.{IsFor, IsRun, MayHappen}
 use Rattle.tp_rules.specs.declared.event.Entry.{Entry}

@@ -1,7 +1,6 @@
 -- What an actor offers is legal, what it has nothing to offer means, and where it stands once it is entered. Used where a cell
 -- chooses, makes and enters a step.
-use Rattle.std.proofs.Common.{◌≡◌, ◌≢◌, ◌<◌, ℕ, Bool, true, false, cond, List, [], ◌∷◌, ◌++◌, Option, Some, None, reverse, refl, sym, ap, subst, ◌∙◌, arith}
-use Rattle.std.specs.Prelude.{option_map}
+use Rattle.std.proofs.Common.{◌≡◌, ◌<◌, ℕ, Bool, true, false, cond, List, [], ◌∷◌, ◌++◌, Option, Some, None, reverse, refl, sym, ap, subst, ◌∙◌, arith}
 use Rattle.tp_base.specs.Lists.{IsIn, IsPrefixOf}
 use Rattle.tp_base.specs.declared.names.ActorName.{ActorName}
 use Rattle.tp_base.specs.declared.names.ActorName.TheVariants.{Process, Executor, Session}
@@ -9,14 +8,13 @@ use Rattle.tp_driver.proofs.Pendings.{pending_legal}
 use Rattle.tp_worker.proofs.Lower.{due_line, may_make, planned_may}
 use Rattle.tp_netbook.specs.Inbox.{FollowsNext, HasNoneLeft, IsSentTo, MayBeDone, line_or_first, lives_yet, next_event, sent_to, waiting_among}
 use Rattle.tp_netbook.specs.Inbox.{entries_by as told_of}
-use Rattle.tp_netbook.specs.Outputs.{event_of}
 use Rattle.tp_netbook.specs.declared.inbox.Waiting.{Waiting}
 use Rattle.tp_rules.proofs.Histories.{free_history}
 use Rattle.tp_rules.proofs.sent.Parcels.{output_sent, parcel}
 use Rattle.tp_rules.specs.Acts.{Act, Identity}
 use Rattle.tp_rules.specs.Journal.{act_of, acts, identity_in, is_known, is_live, output_at, with_act}
 use Rattle.tp_rules.specs.Pending.{pending}
-use Rattle.tp_rules.specs.Plan.{deliveries_left, due, due_of, is_planned}
+use Rattle.tp_rules.specs.Plan.{deliveries_left, due_of, is_planned}
 use Rattle.tp_rules.specs.Rules.{MayMake, enabled}
 use Rattle.tp_rules.specs.Runs.{FollowsFate, FollowsLine, IsFor, IsFreeHistory, IsLegal, IsRun, MayHappen, outputs_in}
 use Rattle.tp_rules.specs.declared.event.Entry.{Entry}

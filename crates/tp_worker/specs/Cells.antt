@@ -1,5 +1,5 @@
 -- What a cell is: an actor with its desk, as its callers see it.
-use Rattle.std.specs.Prelude.{◌≡◌, ◌≢◌, ℕ, ◌+◌, ◌<◌, ◌≤◌, Bool, true, false, List, [], ◌++◌, Option, Some, length, reverse, slice_index_or, take}
+use Rattle.std.specs.Prelude.{◌≡◌, ◌≢◌, ℕ, ◌<◌, ◌≤◌, Bool, true, false, List, [], Some, length, reverse, slice_index_or}
 use Rattle.tp_base.specs.Lists.{IsIn, IsPrefixOf}
 use Rattle.tp_base.specs.declared.names.ActorName.{ActorName}
 use Rattle.tp_netbook.specs.Inbox.{IsInbox}

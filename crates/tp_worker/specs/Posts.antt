@@ -1,5 +1,5 @@
 -- A cell's desk with its inbox: what the inbox was given, and what it was told of.
-use Rattle.std.specs.Prelude.{◌≡◌, ◌*◌, ◌≤◌, ◌^◌, ℕ, Bool, true, false, List, [], ◌∷◌, ◌++◌, Option, Some, None, length, reverse, take}
+use Rattle.std.specs.Prelude.{◌≡◌, ◌*◌, ◌≤◌, ◌^◌, ℕ, Bool, true, false, List, [], ◌∷◌, ◌++◌, Some, None, length, reverse, take}
 use Rattle.tp_base.specs.Lists.{IsPrefixOf}
 use Rattle.tp_base.specs.declared.names.ActorName.{ActorName}
 use Rattle.tp_netbook.specs.Inbox.{IsInbox, MayBeDone, next_event, sent_to}

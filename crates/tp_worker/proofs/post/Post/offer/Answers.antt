@@ -1,5 +1,5 @@
-use Rattle.std.proofs.Common.{refl, sym, ap, subst, ◌∙◌, arith}
-use Rattle.tp_shared.specs.Known.{Known, entry_of, released}
+use Rattle.std.proofs.Common.{refl, ap, ◌∙◌, arith}
+use Rattle.tp_shared.specs.Known.{entry_of, released}
 use Rattle.tp_worker.proofs.Holding.{entered_as, has_entered, legal_held, made_fits, post_made, worked_refused}
 use Rattle.tp_worker.proofs.post.Post.offer.Goals as goal
 
