@@ -1,0 +1,2 @@
+pub mod TopCall
+pub mod Words
