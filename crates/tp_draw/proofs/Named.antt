@@ -4,7 +4,7 @@ use Rattle.std.proofs.lemmas.List.{take_more}
 use Rattle.std.specs.Option.{option_and_then}
 use Rattle.std.specs.Prelude.{String, option_map, slice_get, string_bytes}
 use Rattle.tp_base.specs.declared.names.ActorName.{ActorName}
-use Rattle.tp_rules.proofs.UpTo.{get_map}
+use Rattle.tp_rules.proofs.lists.UpTo.{get_map}
 use Rattle.tp_draw.specs.Words.{actor_of, actors_of, with_first}
 
 -- one more at the end
