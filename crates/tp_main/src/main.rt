@@ -2,6 +2,7 @@
 #![tactic(auto)]
 
 use std::alloc::Global;
+use std::mem::forget;
 use std::process::ExitCode;
 use std::{env, io};
 use tp_outside::{OpenGate, StdSink, StdSource};
@@ -31,7 +32,10 @@ fn main(rt: HostRuntime) -> ExitCode {
             let _ = eprintln!(rt; "tempo: {cause}");
         }
     }
-    ExitCode::from(finished.status)
+    let status = finished.status;
+    // The process ends here, so what it holds isn't given back piece by piece.
+    forget(finished);
+    ExitCode::from(status)
 }
 
 // The words behind the program's name. They are refused where one of them isn't text.
