@@ -35,9 +35,9 @@ present_some table i x e lt =
     ap (λ (t : List (Option _)). present t) ((take_at_read table i None lt).1 ∙ ap (λ (o : Option _). take i table ++ o ∷ []) e)
     ∙ present_push (take i table) (Some x)
 
-pub present_none : {X : Type 0} (table : List (Option X)) (i : ℕ) → get_or table i None ≡ None → i < length table
+pub present_past_none : {X : Type 0} (table : List (Option X)) (i : ℕ) → get_or table i None ≡ None → i < length table
     → (present (take (i + 1) table) ≡ present (take i table))
-present_none table i e lt =
+present_past_none table i e lt =
     ap (λ (t : List (Option _)). present t) ((take_at_read table i None lt).1 ∙ ap (λ (o : Option _). take i table ++ o ∷ []) e)
     ∙ present_push (take i table) None
     ∙ append-nil (present (take i table))
@@ -50,7 +50,7 @@ count_some table i n x e lt so_far = let more = present_some table i x e lt in g
 
 pub count_none : (table : List (Option ℕ)) (i n : ℕ) → get_or table i None ≡ None → i < length table
     → n ≡ length (present (take i table)) → n ≡ length (present (take (i + 1) table))
-count_none table i n e lt so_far = let more = present_none table i e lt in cc
+count_none table i n e lt so_far = let more = present_past_none table i e lt in cc
 
 pub equal_some : (wanted : ℕ) (table : List (Option ℕ)) (i n x : ℕ) → get_or table i None ≡ Some x → i < length table
     → n ≡ count_of wanted (present (take i table))
@@ -62,7 +62,7 @@ equal_some wanted table i n x e lt so_far =
 
 pub equal_none : (wanted : ℕ) (table : List (Option ℕ)) (i n : ℕ) → get_or table i None ≡ None → i < length table
     → n ≡ count_of wanted (present (take i table)) → n ≡ count_of wanted (present (take (i + 1) table))
-equal_none wanted table i n e lt so_far = let more = present_none table i e lt in cc
+equal_none wanted table i n e lt so_far = let more = present_past_none table i e lt in cc
 
 pub greatest_some : (table : List (Option ℕ)) (i n x : ℕ) → get_or table i None ≡ Some x → i < length table
     → n ≡ greatest (present (take i table)) → max n x ≡ greatest (present (take (i + 1) table))
@@ -73,7 +73,7 @@ greatest_some table i n x e lt so_far =
 
 pub greatest_none : (table : List (Option ℕ)) (i n : ℕ) → get_or table i None ≡ None → i < length table
     → n ≡ greatest (present (take i table)) → n ≡ greatest (present (take (i + 1) table))
-greatest_none table i n e lt so_far = let more = present_none table i e lt in cc
+greatest_none table i n e lt so_far = let more = present_past_none table i e lt in cc
 
 pub present_within : (table : List (Option ℕ)) (i : ℕ) → length (present (take i table)) ≤ length table
 present_within table i = let h = length-present (take i table) in grind (arith, common_steps, h)

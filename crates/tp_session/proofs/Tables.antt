@@ -100,13 +100,6 @@ awaited_open shape q answers parts (Some c) low high awaited =
     all_fails (λ k. is_some (kept_at parts k)) (is_accessed shape.partitions c) shape.partitions q low high both.0
     (ap is_some (none_of (kept_at parts q) both.1))
 
--- nor are answers of that partition kept
-pub awaited_none : (shape : Shape) (q : ℕ) (answers : List Answer) (parts : Table) (o : Option Command) → is_awaited shape q answers parts o ≡ true → kept_at parts q ≡ None
-awaited_none shape q answers parts None awaited = absurd cc
-awaited_none shape q answers parts (Some c) awaited =
-    let first = and_parts (is_accessed shape.partitions c q && is_none (kept_at parts q)) (length answers == length (ops_on shape.partitions q c.ops)) awaited in
-    none_of (kept_at parts q) (and_parts (is_accessed shape.partitions c q) (is_none (kept_at parts q)) first.0).1
-
 -- a command whose answers are awaited is one of the session's
 pub awaited_some : (shape : Shape) (q : ℕ) (answers : List Answer) (parts : Table) (commands : List Command) (n : ℕ) → is_awaited shape q answers parts (nth commands n) ≡ true → 1 ≤ n
 awaited_some shape q answers parts commands zero awaited = absurd cc

@@ -3,7 +3,7 @@ use Rattle.std.proofs.Common.{◌≡◌, ℕ, zero, suc, ◌+◌, ◌≤◌, ◌
 use Rattle.tp_base.specs.Lists.{Each}
 use Rattle.tp_choice.specs.declared.answer.RecoveryAnswer.{RecoveryAnswer}
 use Rattle.tp_quorum.specs.Choice.{present}
-use Rattle.tp_quorum.proofs.Present.{present_none, present_some}
+use Rattle.tp_quorum.proofs.Present.{present_past_none, present_some}
 use Rattle.tp_sheet.specs.View.{IsRanked}
 
 pub present_before : {X : Type 0} (table : List (Option X)) (i : ℕ) → length (present (take i table)) ≤ i
@@ -57,7 +57,7 @@ pub listed_none : (table : List (Option RecoveryAnswer)) (i count count' : ℕ) 
     → get_or table i None ≡ None → i < length table → count' ≡ count → gathered' ≡ gathered
     → IsListed table i count gathered → IsListed table (i + 1) count' gathered'
 listed_none table i count count' gathered gathered' e lt same_count same_gathered is =
-    let more : present (take (i + 1) table) ≡ present (take i table) = present_none table i e lt in
+    let more : present (take (i + 1) table) ≡ present (take i table) = present_past_none table i e lt in
     record {
       counted = same_count ∙ is.counted ∙ sym (ap (λ (xs : List RecoveryAnswer). length xs) more);
       listed =

@@ -36,14 +36,14 @@ pub still_none : (n : ℕ) (table : List (Option ℕ)) (k t : ℕ) → k ≤ n �
 still_none n table zero t few none = none
 still_none n table (suc i) t few none = ap (λ (rest : List (Option ℕ)). present rest) (drop-set-lt n table i (Some t) (omega arith)) ∙ none
 
-present_none : (m n : ℕ) → present (drop n (replicate m (let none : Option ℕ = None in none))) ≡ []
-present_none zero zero = refl
-present_none zero (suc n) = refl
-present_none (suc m) zero = present_none m zero
-present_none (suc m) (suc n) = present_none m n
+none_behind : (m n : ℕ) → present (drop n (replicate m (let none : Option ℕ = None in none))) ≡ []
+none_behind zero zero = refl
+none_behind zero (suc n) = refl
+none_behind (suc m) zero = none_behind m zero
+none_behind (suc m) (suc n) = none_behind m n
 
 pub none_past : (n : ℕ) → present (drop n (replicate 7 (let none : Option ℕ = None in none))) ≡ []
-none_past n = present_none 7 n
+none_past n = none_behind 7 n
 
 -- the choice of a whole fast quorum
 pub chosen : (shape : Shape) (sheet : Sheet) (choice : FastChoice) → length (present sheet.acknowledged) ≡ fast_size shape
