@@ -20,7 +20,7 @@ use Rattle.tp_quorum.specs.Choice.{present}
 use Rattle.tp_rules.specs.Addresses.{is_between, site as site_of}
 use Rattle.tp_rules.specs.Process.{Step, ProcessState, on_rec_ack, put_recovered, put_to_vote, with_sheet}
 use Rattle.tp_rules.specs.Sheet.{Sheet, can_answer, is_recovered, putting, ring_rule, with_answer}
-use Rattle.tp_sheet.specs.SiteSheet.{SiteSheet, home_of, putting_at, choice_after_answer, recovery_of, with_answer_of}
+use Rattle.tp_sheet.specs.SiteSheet.{SiteSheet, home_within, putting_at, choice_after_answer, recovery_of, with_answer_of}
 use Rattle.tp_topology.specs.Shape.{Shape, in_ring}
 
 -- the row of the rules for a rank of the shape
@@ -30,7 +30,7 @@ counted_answer shape me a id b s = on_rec_ack (ring_rule shape) me (Process (sit
 -- by whether the rank is one, its answer counts, and a quorum has answered with it, for the command that is kept
 module _ (shape : Shape) (me : Site) (id : CommandId) (ballot : ℕ) (sheet answers : Sheet) (s : ProcessState) where
   abbrev choice_if : Bool → Bool → Option Command → Option ℕ
-  choice_if b f o = cond b (cond f (recovery_of shape answers (home_of shape o)) None) None
+  choice_if b f o = cond b (cond f (recovery_of shape answers (home_within shape o)) None) None
 
   abbrev sheet_if : Bool → Bool → Option Command → Sheet
   sheet_if b f o = cond b (putting_at shape ballot (choice_if b f o) answers) sheet
@@ -42,7 +42,7 @@ module _ (shape : Shape) (me : Site) (id : CommandId) (ballot : ℕ) (sheet answ
   chosen c = recovery_choice (in_ring shape c.home.0) c.home.0 (present answers.answers)
 
   -- what a command whose home is in the shape leads to
-  choice_is : (c : Command) → IsHomed shape (Some c) → recovery_of shape answers (home_of shape (Some c)) ≡ Some (chosen c)
+  choice_is : (c : Command) → IsHomed shape (Some c) → recovery_of shape answers (home_within shape (Some c)) ≡ Some (chosen c)
   choice_is c homed = ap (λ (home : Option Rank). recovery_of shape answers home) (cond-true (is_between c.home.0 shape.replicas) (Some c.home) None homed)
 
   some_if : (w b f : Bool) (o : Option Command) (t : ℕ) → w ≡ true → IsHomed shape o → choice_if (w && b) f o ≡ Some t

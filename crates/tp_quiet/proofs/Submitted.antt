@@ -25,7 +25,7 @@ use Rattle.tp_rules.specs.Addresses.{accessed, message, site}
 use Rattle.tp_rules.specs.Executor as executor
 use Rattle.tp_rules.specs.Process as process
 use Rattle.tp_rules.specs.Session as session
-use Rattle.tp_rules.specs.Journal.{IsSent, act_of, acts, client_of, commands_of, home_of}
+use Rattle.tp_rules.specs.Journal.{IsSent, act_of, acts, client_of, commands_of, session_home}
 use Rattle.tp_rules.specs.Outcome.{is_submission_of, is_submit}
 use Rattle.tp_rules.specs.Runs.{IsFreeHistory, outputs_by}
 use Rattle.tp_rules.specs.Sheet.{ring_rule}
@@ -41,7 +41,7 @@ use Rattle.tp_wire.specs.declared.message.Message.{Message}
 
 module _ (script : Script) (accepted : IsAccepted script) where
   -- the home of a command is that of its session
-  home_is : (c : Command) → IsIn c script.commands → home_of script c.id.session ≡ c.home.0
+  home_is : (c : Command) → IsIn c script.commands → session_home script c.id.session ≡ c.home.0
   home_is c ours =
       let of : IsCommandOf script.homes c = each_in
       (IsCommandOf script.homes) script.commands c accepted.commands ours in
@@ -49,7 +49,7 @@ module _ (script : Script) (accepted : IsAccepted script) where
       go (slice_get script.homes (c.id.session.0 - 1)) (ap (nth script.homes) place) of.2
     where
       go : (o : Option Rank) → nth script.homes c.id.session.0 ≡ o → IsHome o c.home.0
-          → home_of script c.id.session ≡ c.home.0
+          → session_home script c.id.session ≡ c.home.0
       go None is h = absurd h
       go (Some rank) is h =
           ap (λ (o : Option Rank). unwrap_or (option_map (λ (home : Rank). home.0) o) 0) is ∙ h

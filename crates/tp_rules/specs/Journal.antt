@@ -59,12 +59,12 @@ sent (e ∷ older) = sent older ++ numbered (suc (length older)) 1 e.outputs
 abbrev pub commands_of : Script → SessionId → List Command
 commands_of script s = commands_by s.0 script.commands
 
-abbrev pub home_of : Script → SessionId → ℕ
-home_of script s = unwrap_or (option_map (λ home. home.0) (nth script.homes s.0)) 0
+abbrev pub session_home : Script → SessionId → ℕ
+session_home script s = unwrap_or (option_map (λ home. home.0) (nth script.homes s.0)) 0
 
 -- a session has one open command at a time
 abbrev pub client_of : Script → SessionId → Client
-client_of script s = record { session = s; home = home_of script s; window = 1; commands = commands_of script s }
+client_of script s = record { session = s; home = session_home script s; window = 1; commands = commands_of script s }
 
 -- what the script makes an actor with
 abbrev pub identity_in : Script → ActorName → Identity

@@ -13,11 +13,12 @@ use Rattle.tp_base.specs.Lists.{Each}
 use Rattle.tp_base.specs.declared.names.Rank.{Rank}
 use Rattle.tp_base.proofs.Each.{each_in, each_push}
 use Rattle.tp_base.proofs.Members.{in_get}
+use Rattle.tp_base.specs.Tables.{nth}
 use Rattle.tp_ops.specs.Limits.{IsOp}
 use Rattle.tp_ops.specs.declared.command.Command.{Command}
 use Rattle.tp_ops.specs.declared.operation.Op.{Op}
 use Rattle.tp_script.specs.Accepted.{AreNumbered, IsAccepted, IsCommandOf, IsHome, commands_by}
-use Rattle.tp_script.specs.Grammar.{command_line, declared, home_of, next_command, next_number, ops_and_count, room, session_line}
+use Rattle.tp_script.specs.Grammar.{command_line, declared, next_command, next_number, ops_and_count, room, session_line}
 use Rattle.tp_script.specs.Kinds.{IsSaid, Kind, Said, AllSaid, count, kinds, row, take_word}
 use Rattle.tp_script.specs.Print.{body, command_words, ops_words, session_lines, session_words}
 use Rattle.tp_script.specs.declared.fault.ScriptCause.{ScriptCause}
@@ -152,7 +153,7 @@ pub record IsDeclared (homes : List Rank) (s : ℕ) (home : Rank) : Type 0 where
   pub there : IsHome (slice_get homes (s - 1)) home.0
   pub place : slice_get homes (s - 1) ≡ Some home
 
-home_there : (homes : List Rank) (s : ℕ) (home : Rank) → home_of homes s ≡ Some home → IsDeclared homes s home
+home_there : (homes : List Rank) (s : ℕ) (home : Rank) → nth homes s ≡ Some home → IsDeclared homes s home
 home_there homes zero home e = let wrong : ⊥ = cc in absurd wrong
 home_there homes (suc s) home e =
     let same : suc s - 1 ≡ s = omega arith in
@@ -190,7 +191,7 @@ abbrev checked : Script → ℕ → List Op × ℕ → Rank → Result Script Sc
 checked script s ops home = need (leb ops.1 16) (Limit ops.1 16) >>= λ _. room (length script.commands) 1000 >>= λ _. Ok (with_command script s ops.0 home)
 
 abbrev housed : Script → ℕ → List Op × ℕ → Result Script ScriptCause
-housed script s ops = declared (home_of script.homes s) >>= λ home. checked script s ops home
+housed script s ops = declared (nth script.homes s) >>= λ home. checked script s ops home
 
 pub command_grows : (script after : Script) (words : Words) → IsAccepted script → script.plan ≡ [] → script.picks ≡ [] → command_line script words ≡ Ok after
     → Grows script after (codes "command" ∷ words) × (after.plan ≡ []) × (after.picks ≡ [])
@@ -199,7 +200,7 @@ command_grows script after words ok p k e =
     let a = bind_ok (take_word count words) (λ session. ops_and_count session.1 >>= λ ops. housed script session.0 ops) after e in
     let t = taken kinds IsKind IsSaid laws count (omega arith) words a.0 a.1 in
     let b = bind_ok (ops_and_count a.0.1) (λ ops. housed script a.0.0 ops) after a.2 in
-    let h = bind_ok (declared (home_of script.homes a.0.0)) (λ home. checked script a.0.0 b.0 home) after b.2 in
+    let h = bind_ok (declared (nth script.homes a.0.0)) (λ home. checked script a.0.0 b.0 home) after b.2 in
     let n = need_ok (leb b.0.1 16) (Limit b.0.1 16) (room (length script.commands) 1000 >>= λ _. Ok (with_command script a.0.0 b.0.0 h.0)) after h.2 in
     let r = need_ok (ltb (length script.commands) 1000) (Limit 1001 1000) (Ok (with_command script a.0.0 b.0.0 h.0)) after n.1 in
     let few : b.0.1 ≤ 16 = leb-true _ _ n.0 in
@@ -207,7 +208,7 @@ command_grows script after words ok p k e =
     let line : codes "command" ∷ words ≡ codes "command" ∷ decimal a.0.0 ∷ ops_words b.0.0 = ap (λ (x : Words). codes "command" ∷ x) (t.0 ∙ ap (λ (x : Words). decimal a.0.0 ∷ x) o.0.0) in
     let grown : Grows script (with_command script a.0.0 b.0.0 h.0) (codes "command" ∷ words) = record {
       shape = refl;
-      accepted = command_accepted script a.0.0 b.0.0 h.0 ok p (home_there script.homes a.0.0 h.0 (declared_is (home_of script.homes a.0.0) h.0 h.1)) (ltb-true _ _ r.0) (o.0.1, omega (arith, o.1, few)) o.0.2;
+      accepted = command_accepted script a.0.0 b.0.0 h.0 ok p (home_there script.homes a.0.0 h.0 (declared_is (nth script.homes a.0.0) h.0 h.1)) (ltb-true _ _ r.0) (o.0.1, omega (arith, o.1, few)) o.0.2;
       text = command_body script a.0.0 b.0.0 h.0 p k ∙ ap (λ (x : Words). body script ++ x ∷ []) (sym line);
     } in
     subst (λ (x : Script). Grows script x (codes "command" ∷ words) × (x.plan ≡ []) × (x.picks ≡ [])) (ok_is ScriptCause (with_command script a.0.0 b.0.0 h.0) after r.1) (grown, p, k)

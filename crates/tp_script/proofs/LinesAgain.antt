@@ -11,6 +11,7 @@ use Rattle.tp_base.proofs.Ends.{slice_get_left, slice_get_push}
 use Rattle.tp_base.proofs.Ranges.{range_in}
 use Rattle.tp_base.specs.Limits.{IsFrom, is_from}
 use Rattle.tp_base.specs.Lists.{Each}
+use Rattle.tp_base.specs.Tables.{nth}
 use Rattle.tp_base.specs.declared.names.ActorName.{ActorName}
 use Rattle.tp_base.specs.declared.names.ActorName.TheVariants.{Process, Executor, Session as SessionOf}
 use Rattle.tp_base.specs.declared.names.CommandId.{CommandId}
@@ -18,7 +19,7 @@ use Rattle.tp_base.specs.declared.names.Rank.{Rank}
 use Rattle.tp_base.specs.declared.names.Site.{Site}
 use Rattle.tp_ops.specs.declared.command.Command.{Command}
 use Rattle.tp_script.specs.Accepted.{AreNumbered, HasNoDoubles, IsCommandOf, IsCount, IsHome, IsPlanLineOf, is_double}
-use Rattle.tp_script.specs.Grammar.{command_line, crash_line, drop_line, has_double, home_of, is_shape, next_command, next_number, ops_and_count, pick_line, recover_line, repeat_all, repeat_line, repeat_one, room, session_line, shape_line, with_plan}
+use Rattle.tp_script.specs.Grammar.{command_line, crash_line, drop_line, has_double, is_shape, next_command, next_number, ops_and_count, pick_line, recover_line, repeat_all, repeat_line, repeat_one, room, session_line, shape_line, with_plan}
 use Rattle.tp_script.specs.Kinds.{AllSaid, IsSaid, Kind, Said, count, kinds, row, take_word, times}
 use Rattle.tp_script.specs.Meaning.{begun, in_group, into_plan, line_of}
 use Rattle.tp_script.specs.Print.{command_words, ops_words, pick_words, plan_words, session_words}
@@ -114,7 +115,7 @@ number_next before after c are =
 abbrev pub with_next : Script → Command → Script
 with_next script c = record script { commands = script.commands ++ c ∷ [] }
 
-home_is : (homes : List Rank) (s : ℕ) (home : Rank) → 1 ≤ s → IsHome (slice_get homes (s - 1)) home.0 → home_of homes s ≡ Some home
+home_is : (homes : List Rank) (s : ℕ) (home : Rank) → 1 ≤ s → IsHome (slice_get homes (s - 1)) home.0 → nth homes s ≡ Some home
 home_is homes zero home some is = absurd (omega arith)
 home_is homes (suc s) home some is =
     let same : suc s - 1 ≡ s = omega arith in
@@ -134,7 +135,7 @@ command_written script c is sessions next few =
     let s : ℕ = c.id.session.0 in
     let session : take_word count (decimal s ∷ ops_words c.ops) ≡ Ok (s, ops_words c.ops) = word_again kinds IsKind IsSaid laws count (omega arith) s (ops_words c.ops) (omega arith, omega (arith, is.1.1, sessions)) in
     let ops : ops_and_count (ops_words c.ops) ≡ Ok (c.ops, length c.ops) = counted_again c.ops is.0.2.1 is.0.2.0 is.0.3 in
-    let home : home_of script.homes s ≡ Some c.home = home_is script.homes s c.home is.1.0 is.2 in
+    let home : nth script.homes s ≡ Some c.home = home_is script.homes s c.home is.1.0 is.2 in
     let made : next_command script.commands s c.home c.ops ≡ c = ap (λ (n : ℕ). let x : Command = record { id = record { session = record { 0 = s }; number = n }; home = c.home; ops = c.ops } in x) (sym next) in
     let done : Ok (record script { commands = script.commands ++ next_command script.commands s c.home c.ops ∷ [] }) ≡ answer (with_next script c) = ap (λ (x : Command). answer (with_next script x)) made in
     rw (session, ops, home, le-leb (length c.ops) 16 is.0.2.1, lt-ltb (length script.commands) 1000 few) done

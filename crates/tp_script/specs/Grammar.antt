@@ -4,6 +4,7 @@ use Rattle.std.specs.Prelude.{ℕ, zero, suc, ◌-◌, ◌/◌, ◌==◌, ◌&&�
 use Rattle.std.specs.Option.{option_map}
 use Rattle.std.specs.Str.{bytes_eq}
 use Rattle.tp_base.specs.Limits.{is_from}
+use Rattle.tp_base.specs.Tables.{nth}
 use Rattle.tp_base.specs.declared.names.Rank.{Rank}
 use Rattle.tp_ops.specs.declared.command.Command.{Command}
 use Rattle.tp_ops.specs.declared.operation.Op.{Op}
@@ -105,11 +106,6 @@ ops_and_count words = do
 
 -- ---- `command`: its session, operations
 
--- the home of a session, where it is declared
-abbrev pub home_of : List Rank → ℕ → Option Rank
-home_of homes zero = None
-home_of homes (suc s) = slice_get homes s
-
 abbrev pub declared : {A : Type 0} → Option A → Result A ScriptCause
 declared (Some a) = Ok a
 declared None = Err Session
@@ -129,7 +125,7 @@ unfoldable pub command_line : Script → List (List ℕ) → Result Script Scrip
 command_line script words = do
   session ← take_word count words
   ops ← ops_and_count session.1
-  home ← declared (home_of script.homes session.0)
+  home ← declared (nth script.homes session.0)
   need (nat_le ops.1 16) (Limit ops.1 16)
   room (length script.commands) 1000
   Ok (record script { commands = script.commands ++ next_command script.commands session.0 home ops.0 ∷ [] })

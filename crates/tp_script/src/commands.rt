@@ -1,7 +1,8 @@
 ghost use Rattle.std.specs.Option.{option_copied};
 ghost use Rattle.std.specs.Prelude.{◌≡◌, ◌≤◌, ◌+◌, length};
+ghost use Rattle.tp_base.specs.Tables.{nth};
 ghost use Rattle.tp_script.specs.Accepted.{commands_by};
-ghost use Rattle.tp_script.specs.Grammar.{command_line, home_of, next_number};
+ghost use Rattle.tp_script.specs.Grammar.{command_line, next_number};
 ghost use Rattle.tp_text.specs.Reading.{Gives};
 
 use crate::fault::{Refusal, ScriptCause};
@@ -14,7 +15,7 @@ use tp_ops::Command;
 use tp_text::Words;
 
 fn home(homes: &[Rank], session: u32) -> Option<Rank>
-    ensures { result ≡ home_of homes.now session }
+    ensures { result ≡ nth homes.now session }
 {
     if session == 0 {
         return None;

@@ -132,9 +132,9 @@ abbrev pub takes_answer : ℕ → ℕ → SiteSheet → Bool
 takes_answer rank b kept = is_between rank kept.shape.replicas && can_answer kept.site.partition.0 b rank kept.sheet
 
 -- the home of a command, where it is a rank of the shape
-abbrev pub home_of : Shape → Option Command → Option Rank
-home_of shape None = None
-home_of shape (Some c) = cond (is_between c.home.0 shape.replicas) (Some c.home) None
+abbrev pub home_within : Shape → Option Command → Option Rank
+home_within shape None = None
+home_within shape (Some c) = cond (is_between c.home.0 shape.replicas) (Some c.home) None
 
 -- what the answers lead to, by the command's home
 abbrev pub recovery_of : Shape → Sheet → Option Rank → Option ℕ
@@ -143,7 +143,7 @@ recovery_of shape sheet (Some home) = Some (recovery_choice (in_ring shape home.
 
 -- where just a recovery quorum has answered
 abbrev pub recovery_where_full : Shape → Sheet → Option ℕ
-recovery_where_full shape sheet = cond (is_recovered shape sheet) (recovery_of shape sheet (home_of shape sheet.command)) None
+recovery_where_full shape sheet = cond (is_recovered shape sheet) (recovery_of shape sheet (home_within shape sheet.command)) None
 
 abbrev pub putting_at : Shape → ℕ → Option ℕ → Sheet → Sheet
 putting_at shape b None sheet = sheet

@@ -4,7 +4,7 @@ ghost use Rattle.tp_base.specs.Lists.{Each};
 ghost use Rattle.tp_base.specs.Tables.{kept_at};
 ghost use Rattle.tp_rules.specs.Process.{has_next};
 ghost use Rattle.tp_rules.specs.Sheet.{can_answer, made_of, stamp_of, stamp_told, trying, with_answer};
-ghost use Rattle.tp_sheet.specs.SiteSheet.{answer_of, ballot_by, home_of, promise_by, choice_after_answer, recovery_where_full, with_answer_of, with_promise, with_sheet, with_try};
+ghost use Rattle.tp_sheet.specs.SiteSheet.{answer_of, ballot_by, home_within, promise_by, choice_after_answer, recovery_where_full, with_answer_of, with_promise, with_sheet, with_try};
 ghost use Rattle.tp_sheet.specs.View.{IsRanked};
 ghost use Rattle.tp_topology.specs.Ballots.{next_ballot as next_ballot_of};
 
@@ -157,7 +157,7 @@ impl Sheet {
 
     /// The home of the command that is kept, where it is a rank of the shape.
     fn home(&self) -> Option<Rank>
-        ensures { result ≡ home_of self.now.shape self.now.sheet.command }
+        ensures { result ≡ home_within self.now.shape self.now.sheet.command }
     {
         match &self.command {
             None => None,

@@ -16,7 +16,7 @@ use Rattle.tp_rules.proofs.fit.Messages.{IsFit, between_is, command_in_range, ea
 use Rattle.tp_rules.proofs.lists.Selections.{IfAny, each_filter, each_get, each_image}
 use Rattle.tp_rules.specs.Acts.{Act, Took, Did, Client}
 use Rattle.tp_rules.specs.Addresses.{accessed, is_between, message, site}
-use Rattle.tp_rules.specs.Journal.{client_of, commands_of, home_of}
+use Rattle.tp_rules.specs.Journal.{client_of, commands_of, session_home}
 use Rattle.tp_rules.specs.Session.{Step, SessionState, on_body, on_result, react, submissions}
 use Rattle.tp_rules.specs.declared.event.Inner.TheVariants.{Submit, Announce}
 use Rattle.tp_script.specs.Accepted.{IsAccepted}
@@ -44,7 +44,7 @@ module _ (script : Script) (accepted : IsAccepted script) (s : SessionId) (known
   of_session : IsFrom 1 (length script.homes) s.0
   of_session = between_is s.0 (length script.homes) known
 
-  of_home : IsFrom 1 script.topology.replicas (home_of script s)
+  of_home : IsFrom 1 script.topology.replicas (session_home script s)
   of_home = home_nth script.homes s.0 script.topology.replicas accepted.homes of_session
 
   of_commands : (n : ℕ) → IfAny (λ (c : Command). IsIn c script.commands) (nth (commands_of script s) n)
@@ -62,7 +62,7 @@ module _ (script : Script) (accepted : IsAccepted script) (s : SessionId) (known
       → Each (IsFit script) (submissions script.topology (client_of script s) o)
   submission_fit None h = tt
   submission_fit (Some c) h =
-      let home : ℕ = home_of script s in
+      let home : ℕ = session_home script s in
       each_image (IsFit script) (λ to. message (Session s) to (MSubmit c)) _
       (each_image (λ to. IsFit script (message (Session s) to (MSubmit c))) (λ p. Process (site p home)) (accessed script.topology c)
       (each_weaker (IsFrom 1 script.topology.partitions) (λ p. IsFit script (message (Session s) (Process (site p home)) (MSubmit c)))
