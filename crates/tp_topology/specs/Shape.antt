@@ -1,5 +1,7 @@
 -- The shape of the store, and its quorums.
-use Rattle.std.specs.Prelude.{ℕ, ◌+◌, ◌-◌, ◌/◌, ◌%◌, ◌≤◌, Bool, nat_lt}
+use Rattle.std.specs.Prelude.{ℕ, ◌+◌, ◌-◌, ◌/◌, ◌%◌, ◌≤◌, ◌&&◌, Bool, nat_lt}
+use Rattle.tp_base.specs.Limits.{IsFrom, is_from}
+use Rattle.tp_base.specs.declared.names.Site.{Site}
 
 -- partitions 1 to `partitions`, ranks 1 to `replicas`, of which `failures` may fail
 pub record Shape : Type 0 where
@@ -14,6 +16,14 @@ pub record IsShape (s : Shape) : Type 0 where
   pub few_replicas : s.replicas ≤ 7
   pub some_failure : 1 ≤ s.failures
   pub minority : s.failures ≤ (s.replicas - 1) / 2
+
+-- a site in the shape
+abbrev pub IsSiteOf : Shape → Site → Type 0
+IsSiteOf shape site = IsFrom 1 shape.partitions site.partition.0 × IsFrom 1 shape.replicas site.rank.0
+
+-- the test for it
+abbrev pub is_site_of : Shape → Site → Bool
+is_site_of shape site = is_from 1 shape.partitions site.partition.0 && is_from 1 shape.replicas site.rank.0
 
 abbrev pub fast_size : Shape → ℕ
 fast_size s = s.replicas / 2 + s.failures

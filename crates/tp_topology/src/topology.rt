@@ -1,9 +1,10 @@
 ghost use Rattle.std.specs.Prelude.{◌≡◌, ◌≤◌, ◌<◌, ◌*◌, ◌↔◌, IfOk, IfErr, IsTrue};
-ghost use Rattle.tp_topology.specs.Shape.{IsShape, fast_size, slow_size, recovery_size, majority_size, in_ring};
+ghost use Rattle.tp_base.specs.Limits.{is_from};
+ghost use Rattle.tp_topology.specs.Shape.{IsShape, fast_size, slow_size, recovery_size, majority_size, in_ring, is_site_of};
 
 use std::marker::Model;
 use thiserror::Error;
-use tp_base::Rank;
+use tp_base::{PartitionId, Rank, Site};
 
 /// How many partitions there are, how many replicas each has, and how many of a partition's
 /// replicas may fail.
@@ -83,6 +84,25 @@ impl Topology {
         ensures range { (1 ≤ result) × (2 * result < self.now.replicas) }
     {
         self.failures
+    }
+
+    pub fn has_partition(&self, partition: PartitionId) -> bool
+        ensures { result ≡ is_from 1 self.now.partitions partition.0 }
+    {
+        1 <= partition.0 && partition.0 <= self.partitions
+    }
+
+    pub fn has_rank(&self, rank: Rank) -> bool
+        ensures { result ≡ is_from 1 self.now.replicas rank.0 }
+    {
+        1 <= rank.0 && rank.0 <= self.replicas
+    }
+
+    /// Whether a site is in the shape.
+    pub fn has_site(&self, site: Site) -> bool
+        ensures { result ≡ is_site_of self.now site }
+    {
+        self.has_partition(site.partition) && self.has_rank(site.rank)
     }
 
     /// The members of a fast quorum.
