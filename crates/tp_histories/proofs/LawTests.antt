@@ -5,7 +5,9 @@ use Rattle.std.specs.List.{list_all, list_any}
 use Rattle.std.specs.Prelude.{find, is_some}
 use Rattle.tp_base.proofs.Each.{each_in}
 use Rattle.tp_base.proofs.Members.{has_in}
+use Rattle.tp_base.proofs.Ranges.{in_range, range_in}
 use Rattle.tp_base.proofs.SameNames.{same_id_is}
+use Rattle.tp_base.specs.Limits.{is_from}
 use Rattle.tp_base.specs.Lists.{Ascends, Each, has, IsIn, IsPrefixOf}
 use Rattle.tp_base.specs.Names.{key_lt, same_id}
 use Rattle.tp_base.specs.declared.names.CommandId.{CommandId}
@@ -16,7 +18,7 @@ use Rattle.tp_facts.proofs.Tables.{all_in, any_in}
 use Rattle.tp_ops.specs.declared.command.Command.{Command}
 use Rattle.tp_ops.specs.declared.operation.Answer.{Answer}
 use Rattle.tp_rules.proofs.lists.UpTo.{in_up_to}
-use Rattle.tp_rules.specs.Addresses.{is_between, is_site_of, site}
+use Rattle.tp_rules.specs.Addresses.{is_site_of, site}
 use Rattle.tp_rules.specs.Laws.{CommitsAgree, IsCommitted, IsLawful, IsShareOrdered, LineKeepsRealTime, LineOrders, RepliesAreSequential}
 use Rattle.tp_rules.specs.Outcome.{Commit, accesses, command_of, commits, executions, first_result, is_submission_of, key_in, line, precedes, reply_from, reply_to, sequential_answers, share, stamp_in, those_before}
 use Rattle.tp_rules.specs.declared.event.Entry.{Entry}
@@ -88,13 +90,8 @@ is_share_ordered script older p =
 
 abbrev pub line_orders : Script → List Entry → Bool
 line_orders script older =
-    is_between 1 script.topology.partitions
+    is_from 1 script.topology.partitions 1
     && list_all (is_share_ordered script older) (up_to script.topology.partitions)
-
-between_is : (n high : ℕ) → is_between n high ≡ true → (1 ≤ n) × (n ≤ high)
-between_is n high test =
-    let both = and_parts _ _ test in
-    (leb-true 1 n both.0, leb-true n high both.1)
 
 within : (script : Script) (older : List Entry) (p : ℕ) → is_share_ordered script older p ≡ true →
     IsShareOrdered script older p
@@ -112,9 +109,9 @@ within script older p test =
         list_all (begins_share script older p) (up_to script.topology.replicas) ≡ true →
         IsPrefixOf (executions older s) (share script p (line older))
     prefix s known is each =
-        let both = and_parts (is_between s.partition.0 script.topology.partitions)
-        (is_between s.rank.0 script.topology.replicas) known in
-        let rank = between_is s.rank.0 script.topology.replicas both.1 in
+        let both = and_parts (is_from 1 script.topology.partitions s.partition.0)
+        (is_from 1 script.topology.replicas s.rank.0) known in
+        let rank = in_range 1 script.topology.replicas s.rank.0 both.1 in
         subst (λ (q : ℕ). IsPrefixOf (executions older (site q s.rank.0)) (share script p (line older))) (sym is)
         (prefix_is (executions older (site p s.rank.0)) (share script p (line older))
         (all_in (begins_share script older p) (up_to script.topology.replicas) s.rank.0 each
@@ -122,7 +119,7 @@ within script older p test =
 
 -- no command accesses a partition that the shape has not
 nothing_outside : (script : Script) → 1 ≤ script.topology.partitions → (p : ℕ) →
-    is_between p script.topology.partitions ≡ false →
+    is_from 1 script.topology.partitions p ≡ false →
     (ids : List CommandId) → share script p ids ≡ []
 unfolding share
 nothing_outside script some p apart [] = refl
@@ -131,17 +128,14 @@ nothing_outside script some p apart (id ∷ ids) =
     elim (cases_Bool (accessed p)) [
       | inl t ↦
           let both = accesses_within script some p (command_of script id) t in
-          let inside : is_between p script.topology.partitions ≡ true =
-          between_from p script.topology.partitions both.0 both.1 in
+          let inside : is_from 1 script.topology.partitions p ≡ true =
+          range_in 1 script.topology.partitions p both in
           absurd cc
       | inr f ↦ cond-false (accessed p) _ _ f ∙ nothing_outside script some p apart ids
     ]
-  where
-    between_from : (n high : ℕ) → 1 ≤ n → n ≤ high → is_between n high ≡ true
-    between_from n high low up = and_from _ _ (le-leb 1 n low) (le-leb n high up)
 
 outside : (script : Script) (older : List Entry) → 1 ≤ script.topology.partitions → (p : ℕ) →
-    is_between p script.topology.partitions ≡ false → IsShareOrdered script older p
+    is_from 1 script.topology.partitions p ≡ false → IsShareOrdered script older p
 outside script older some p apart =
     let empty = nothing_outside script some p apart (line older) in
     record {
@@ -152,20 +146,20 @@ outside script older some p apart =
   where
     not_known : (s : Site) → is_site_of script.topology s ≡ true → s.partition.0 ≡ p → ⊥
     not_known s known is =
-        let both = and_parts (is_between s.partition.0 script.topology.partitions)
-        (is_between s.rank.0 script.topology.replicas) known in
-        let inside : is_between p script.topology.partitions ≡ true =
-        subst (λ (q : ℕ). is_between q script.topology.partitions ≡ true) is both.0 in
+        let both = and_parts (is_from 1 script.topology.partitions s.partition.0)
+        (is_from 1 script.topology.replicas s.rank.0) known in
+        let inside : is_from 1 script.topology.partitions p ≡ true =
+        subst (λ (q : ℕ). is_from 1 script.topology.partitions q ≡ true) is both.0 in
         cc
 
 orders : (script : Script) (older : List Entry) → line_orders script older ≡ true → LineOrders script older
 unfolding LineOrders
 orders script older test p =
-    let both = and_parts (is_between 1 script.topology.partitions) _ test in
-    let some = between_is 1 script.topology.partitions both.0 in
-    elim (cases_Bool (is_between p script.topology.partitions)) [
+    let both = and_parts (is_from 1 script.topology.partitions 1) _ test in
+    let some = in_range 1 script.topology.partitions 1 both.0 in
+    elim (cases_Bool (is_from 1 script.topology.partitions p)) [
       | inl inside ↦
-          let from = between_is p script.topology.partitions inside in
+          let from = in_range 1 script.topology.partitions p inside in
           within script older p
           (all_in (is_share_ordered script older) (up_to script.topology.partitions) p both.1
           (in_up_to script.topology.partitions p from.0 from.1))

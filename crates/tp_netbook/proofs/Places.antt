@@ -8,12 +8,13 @@ use Rattle.std.proofs.lemmas.Option.{slice_get-map}
 use Rattle.std.specs.List.{flat_map}
 use Rattle.std.specs.Prelude.{option_map, slice_get}
 use Rattle.tp_base.proofs.Ends.{slice_get_left, slice_get_right}
+use Rattle.tp_base.proofs.Ranges.{in_range, range_in}
 use Rattle.tp_base.specs.Limits.{IsFrom}
 use Rattle.tp_base.specs.declared.names.ActorName.{ActorName}
 use Rattle.tp_base.specs.declared.names.ActorName.TheVariants.{Process, Executor, Session}
 use Rattle.tp_base.specs.declared.names.Site.{Site}
 use Rattle.tp_netbook.specs.Places.{place_of, place_of_site}
-use Rattle.tp_rules.proofs.fit.Messages.{between_is, is_between-from, site_is, site_known}
+use Rattle.tp_rules.proofs.fit.Messages.{site_is, site_known}
 use Rattle.tp_rules.specs.Addresses.{is_site_of, site}
 use Rattle.tp_rules.specs.Journal.{is_known, ranks_of}
 use Rattle.tp_rules.specs.Pending.{actors_of, sites_of}
@@ -186,7 +187,7 @@ module _ (script : Script) where
     | inl first ↦ elim (split_get sessions processes k name first.1) [
       | inl session ↦
           let found = numbered_get (λ s. Session (record { 0 = s })) (length script.homes) k name session.1 in
-          subst (IsAt k) (sym found.1) (omega arith, is_between-from (suc k) (length script.homes) (omega arith, omega (arith, found.0)))
+          subst (IsAt k) (sym found.1) (omega arith, range_in 1 (length script.homes) (suc k) (omega arith, omega (arith, found.0)))
       | inr process ↦
           let found = site_get (λ s. Process s) process.0 name process.2 in
           subst (IsAt k) (sym found.1) (omega (arith, process.1, found.2, length-sessions), found.3)
@@ -199,7 +200,7 @@ module _ (script : Script) where
   pub get_place : (name : ActorName) → is_known script name ≡ true → slice_get (actors_of script) (place_of script name) ≡ Some name
   unfolding actors_of
   get_place (Session s) known =
-      let of = between_is s.0 (length script.homes) known in
+      let of = in_range 1 (length script.homes) s.0 known in
       let at : suc (s.0 - 1) ≡ s.0 = omega (arith, of.0) in
       slice_get_left (sessions ++ processes) executors (s.0 - 1) (omega (arith, of.0, of.1, length-processes))
       ∙ slice_get_left sessions processes (s.0 - 1) (omega (arith, of.0, of.1, length-sessions))

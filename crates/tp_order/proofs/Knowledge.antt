@@ -3,6 +3,7 @@
 use Rattle.std.proofs.Common.{◌≡◌, List, [], ◌∷◌, Option, Some, None, refl}
 use Rattle.std.specs.Prelude.{◌==◌, ◌&&◌, not, true}
 use Rattle.std.proofs.lemmas.Bool.{cond_both, and_parts, eqb-true}
+use Rattle.tp_base.specs.Limits.{is_from}
 use Rattle.tp_base.specs.Lists.{Each, has}
 use Rattle.tp_base.specs.Names.{same_id, same_name}
 use Rattle.tp_base.specs.declared.names.ActorName.TheVariants.{Executor}
@@ -10,7 +11,7 @@ use Rattle.tp_base.specs.declared.names.Site.{Site}
 use Rattle.tp_base.specs.declared.names.Stamp.{Stamp}
 use Rattle.tp_ops.specs.Parts.{is_accessed}
 use Rattle.tp_rules.specs.Acts.{Act, Took, Did}
-use Rattle.tp_rules.specs.Addresses.{rank_of, partition_of, is_name_of, is_body_at, is_between}
+use Rattle.tp_rules.specs.Addresses.{rank_of, partition_of, is_name_of, is_body_at}
 use Rattle.tp_rules.specs.declared.event.Inner.TheVariants.{Declare, Execute}
 use Rattle.tp_topology.specs.Shape.{Shape}
 use Rattle.tp_topology.specs.Stability.{Telling}
@@ -87,7 +88,7 @@ module _ (P : Message → Type 0) (shape : Shape) (me : Site) where
             body = is;
             key = refl;
             accesses =
-                (and_parts (is_between c.home.0 shape.replicas) (is_accessed shape.partitions c me.partition.0) fits).1;
+                (and_parts (is_from 1 shape.replicas c.home.0) (is_accessed shape.partitions c me.partition.0) fits).1;
           },
           knows.committed,
         );

@@ -2,7 +2,7 @@
 use Rattle.std.proofs.Common.{◌≡◌, ℕ, ◌<◌, Bool, true, false, ◌&&◌, cond, List, [], Option, Some, None, refl, sym, ap, subst, ◌∙◌}
 use Rattle.std.proofs.lemmas.Bool.{cond-true}
 use Rattle.indexmap.specs.IndexMap.{IndexMap}
-use Rattle.tp_base.specs.Limits.{STAMP_LIMIT}
+use Rattle.tp_base.specs.Limits.{STAMP_LIMIT, is_from}
 use Rattle.tp_base.specs.declared.names.ActorName.TheVariants.{Process}
 use Rattle.tp_base.specs.declared.names.CommandId.{CommandId}
 use Rattle.tp_base.specs.declared.names.Pair.{Pair}
@@ -17,7 +17,7 @@ use Rattle.tp_process.proofs.LowStamps.{putting_low, recovery_low, with_answer_l
 use Rattle.tp_process.specs.Sheets.{ChangesSheet, sheet_at}
 use Rattle.tp_process.specs.State.{Agrees, IsHomed, IsLow, site_sheet}
 use Rattle.tp_quorum.specs.Choice.{present}
-use Rattle.tp_rules.specs.Addresses.{is_between, site as site_of}
+use Rattle.tp_rules.specs.Addresses.{site as site_of}
 use Rattle.tp_rules.specs.Process.{Step, ProcessState, on_rec_ack, put_recovered, put_to_vote, with_sheet}
 use Rattle.tp_rules.specs.Sheet.{Sheet, can_answer, is_recovered, putting, ring_rule, with_answer}
 use Rattle.tp_sheet.specs.SiteSheet.{SiteSheet, home_within, putting_at, choice_after_answer, recovery_of, with_answer_of}
@@ -43,7 +43,7 @@ module _ (shape : Shape) (me : Site) (id : CommandId) (ballot : ℕ) (sheet answ
 
   -- what a command whose home is in the shape leads to
   choice_is : (c : Command) → IsHomed shape (Some c) → recovery_of shape answers (home_within shape (Some c)) ≡ Some (chosen c)
-  choice_is c homed = ap (λ (home : Option Rank). recovery_of shape answers home) (cond-true (is_between c.home.0 shape.replicas) (Some c.home) None homed)
+  choice_is c homed = ap (λ (home : Option Rank). recovery_of shape answers home) (cond-true (is_from 1 shape.replicas c.home.0) (Some c.home) None homed)
 
   some_if : (w b f : Bool) (o : Option Command) (t : ℕ) → w ≡ true → IsHomed shape o → choice_if (w && b) f o ≡ Some t
       → (row_if b f o ≡ (with_sheet id (putting shape ballot t answers) s, put_to_vote shape me ballot t o))
@@ -72,7 +72,7 @@ module _ (shape : Shape) (me : Site) (id : CommandId) (ballot : ℕ) (sheet answ
 module _ {S : Type 0} (shape : Shape) (me : Site) (clock told : ℕ) (pairs : List Pair) (sheets new : IndexMap CommandId SiteSheet S)
     (a : RecoveryAnswer) (b : ℕ) (id : CommandId) (s : ProcessState)
     (change : ChangesSheet shape me sheets new id (with_answer_of a b (sheet_at shape me sheets id)))
-    (h : Agrees shape me clock told pairs sheets s) (within : is_between a.rank.0 shape.replicas ≡ true) (below : a.stamp.0 < STAMP_LIMIT) where
+    (h : Agrees shape me clock told pairs sheets s) (within : is_from 1 shape.replicas a.rank.0 ≡ true) (below : a.stamp.0 < STAMP_LIMIT) where
   abbrev old : Sheet
   old = s.sheets id
 
@@ -99,7 +99,7 @@ module _ {S : Type 0} (shape : Shape) (me : Site) (clock told : ℕ) (pairs : Li
       → (counted_answer shape me a id b s ≡ (with_sheet id (putting shape b t answers) s, put_to_vote shape me b t answers.command))
       × Agrees shape me clock told pairs new (with_sheet id (putting shape b t answers) s)
   answers_some t e =
-      let all = some_if shape me id b old answers s (is_between a.rank.0 shape.replicas) can (is_recovered shape answers) answers.command t within low.home (by_sheet (Some t) e) in
+      let all = some_if shape me id b old answers s (is_from 1 shape.replicas a.rank.0) can (is_recovered shape answers) answers.command t within low.home (by_sheet (Some t) e) in
       let lt : t < STAMP_LIMIT = subst (λ (n : ℕ). n < STAMP_LIMIT) all.2.1 (recovery_low (in_ring shape all.2.0) all.2.0 answers.answers low.answers) in (
         all.0,
         keeps_now (putting shape b t answers) (ap (λ (kept : Sheet). site_sheet shape me kept) all.1) (putting_low shape b t answers lt low),
@@ -114,4 +114,4 @@ module _ {S : Type 0} (shape : Shape) (me : Site) (clock told : ℕ) (pairs : Li
       → ((counted_answer shape me a id b s).1 ≡ []) × Agrees shape me clock told pairs new (counted_answer shape me a id b s).0
   answers_none e =
       quietly (counted_answer shape me a id b s) (with_answer_of a b (site_sheet shape me old)).sheet
-      (none_if shape me id b old answers s (is_between a.rank.0 shape.replicas) can (is_recovered shape answers) answers.command within low.home (by_sheet None e)) refl
+      (none_if shape me id b old answers s (is_from 1 shape.replicas a.rank.0) can (is_recovered shape answers) answers.command within low.home (by_sheet None e)) refl

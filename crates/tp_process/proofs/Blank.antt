@@ -2,10 +2,10 @@
 use Rattle.std.proofs.Common.{◌≡◌, ℕ, zero, suc, Bool, true, false, Option, None, replicate, refl, ap, ◌∙◌, arith}
 use Rattle.std.proofs.lemmas.Bool.{and_parts, eqb-true, ltb-true}
 use Rattle.std.specs.Prelude.{is_none, slice_get, ◌&&◌, ◌==◌, nat_lt}
+use Rattle.tp_base.specs.Limits.{is_from}
 use Rattle.tp_base.specs.Tables.{kept_at, flat}
 use Rattle.tp_base.specs.declared.names.Site.{Site}
 use Rattle.tp_choice.specs.declared.answer.RecoveryAnswer.{RecoveryAnswer}
-use Rattle.tp_rules.specs.Addresses.{is_between}
 use Rattle.tp_rules.specs.Sheet.{blank, is_fresh, stamp_of}
 use Rattle.tp_sheet.specs.SiteSheet.{blank_at, takes_acknowledgement, choice_after_ack, with_acknowledgement, takes_vote, decision_after_vote, with_vote_of, final_of, ballot_by, with_try, takes_answer, choice_after_answer, with_answer_of}
 use Rattle.tp_topology.specs.Shape.{Shape}
@@ -37,7 +37,7 @@ blank-final shape site = refl
 
 blank-takes : (shape : Shape) (site : Site) (rank : ℕ) → takes_acknowledgement rank (blank_at shape site) ≡ false
 unfolding blank
-blank-takes shape site rank = never (is_between rank shape.replicas)
+blank-takes shape site rank = never (is_from 1 shape.replicas rank)
 
 pub blank-choice : (shape : Shape) (site : Site) (rank t : ℕ) → choice_after_ack rank t (blank_at shape site) ≡ None
 blank-choice shape site rank t = rw (blank-takes shape site rank) refl
@@ -48,8 +48,8 @@ blank-acknowledges shape site rank t = rw (blank-takes shape site rank) refl
 blank-takes_vote : (shape : Shape) (site : Site) (rank b : ℕ) → takes_vote rank b (blank_at shape site) ≡ false
 unfolding blank
 blank-takes_vote shape site rank b =
-    ap (λ (counts : Bool). is_between rank shape.replicas && counts) (never (is_none (stamp_of (blank shape) site.partition.0)))
-    ∙ never (is_between rank shape.replicas)
+    ap (λ (counts : Bool). is_from 1 shape.replicas rank && counts) (never (is_none (stamp_of (blank shape) site.partition.0)))
+    ∙ never (is_from 1 shape.replicas rank)
 
 pub blank-decision : (shape : Shape) (site : Site) (rank b : ℕ) → decision_after_vote rank b (blank_at shape site) ≡ None
 blank-decision shape site rank b = rw (blank-takes_vote shape site rank b) refl
@@ -81,7 +81,7 @@ no_try unknown b unanswered true e =
 blank-takes_answer : (shape : Shape) (site : Site) (rank b : ℕ) → takes_answer rank b (blank_at shape site) ≡ false
 unfolding blank
 blank-takes_answer shape site rank b =
-    ap (λ (counts : Bool). is_between rank shape.replicas && counts) (no_try _ b _ _ refl) ∙ never (is_between rank shape.replicas)
+    ap (λ (counts : Bool). is_from 1 shape.replicas rank && counts) (no_try _ b _ _ refl) ∙ never (is_from 1 shape.replicas rank)
 
 pub blank-recovery : (shape : Shape) (site : Site) (a : RecoveryAnswer) (b : ℕ) → choice_after_answer a b (blank_at shape site) ≡ None
 blank-recovery shape site a b = rw (blank-takes_answer shape site a.rank.0 b) refl

@@ -1,7 +1,7 @@
 -- How the sheets go on with the state of the rules, as a rank acknowledges.
 use Rattle.std.proofs.Common.{◌≡◌, ℕ, ◌<◌, true, List, [], Option, Some, None, refl, sym, ap, ◌∙◌}
 use Rattle.indexmap.specs.IndexMap.{IndexMap}
-use Rattle.tp_base.specs.Limits.{STAMP_LIMIT}
+use Rattle.tp_base.specs.Limits.{STAMP_LIMIT, is_from}
 use Rattle.tp_base.specs.declared.names.CommandId.{CommandId}
 use Rattle.tp_base.specs.declared.names.Pair.{Pair}
 use Rattle.tp_base.specs.declared.names.Site.{Site}
@@ -13,7 +13,6 @@ use Rattle.tp_process.specs.Sheets.{ChangesSheet, sheet_at}
 use Rattle.tp_process.specs.State.{Agrees, IsLow, site_sheet}
 use Rattle.tp_quorum.specs.declared.choice.FastChoice.{FastChoice}
 use Rattle.tp_quorum.specs.declared.choice.FastChoice.TheVariants.{Fast, Slow}
-use Rattle.tp_rules.specs.Addresses.{is_between}
 use Rattle.tp_rules.specs.Process.{Step, ProcessState, decided, put_to_vote, with_sheet}
 use Rattle.tp_rules.specs.Sheet.{Sheet, acknowledged, putting}
 use Rattle.tp_sheet.specs.SiteSheet.{SiteSheet, choice_after_ack, with_acknowledgement}
@@ -22,7 +21,7 @@ use Rattle.tp_topology.specs.Shape.{Shape}
 module _ {S : Type 0} (shape : Shape) (me : Site) (clock told : ℕ) (pairs : List Pair) (sheets new : IndexMap CommandId SiteSheet S)
     (rank t : ℕ) (id : CommandId) (s : ProcessState)
     (change : ChangesSheet shape me sheets new id (with_acknowledgement rank t (sheet_at shape me sheets id)))
-    (h : Agrees shape me clock told pairs sheets s) (within : is_between rank shape.replicas ≡ true) (below : t < STAMP_LIMIT) where
+    (h : Agrees shape me clock told pairs sheets s) (within : is_from 1 shape.replicas rank ≡ true) (below : t < STAMP_LIMIT) where
   abbrev acked : Sheet
   acked = acknowledged rank t (s.sheets id)
 

@@ -1,7 +1,7 @@
 -- What a rank's acknowledgement leads to, by the sheet and by the rules.
 use Rattle.std.proofs.Common.{◌≡◌, ℕ, ◌<◌, Bool, true, false, ◌&&◌, cond, List, [], Option, Some, None, refl, ap, subst}
 use Rattle.std.proofs.lemmas.Bool.{cond_both}
-use Rattle.tp_base.specs.Limits.{STAMP_LIMIT}
+use Rattle.tp_base.specs.Limits.{STAMP_LIMIT, is_from}
 use Rattle.tp_base.specs.declared.names.ActorName.TheVariants.{Process}
 use Rattle.tp_base.specs.declared.names.CommandId.{CommandId}
 use Rattle.tp_base.specs.declared.names.Site.{Site}
@@ -11,7 +11,7 @@ use Rattle.tp_process.specs.State.{AreLow, IsLow, site_sheet}
 use Rattle.tp_quorum.specs.Choice.{fast_choice, greatest, is_fast, present}
 use Rattle.tp_quorum.specs.declared.choice.FastChoice.{FastChoice}
 use Rattle.tp_quorum.specs.declared.choice.FastChoice.TheVariants.{Fast, Slow}
-use Rattle.tp_rules.specs.Addresses.{is_between, site as site_of}
+use Rattle.tp_rules.specs.Addresses.{site as site_of}
 use Rattle.tp_rules.specs.Process.{Step, ProcessState, follow_choice, decided, on_propose_ack, put_to_vote, with_sheet}
 use Rattle.tp_rules.specs.Sheet.{Sheet, acknowledged, can_acknowledge, is_full, putting, ring_rule}
 use Rattle.tp_sheet.specs.SiteSheet.{choice_after_ack, put_by, with_acknowledgement}
@@ -86,7 +86,7 @@ slow_top_low shape table top low = cond_both {A = FastChoice} (is_fast shape (pr
     best : Stamp
     best = record { 0 = greatest (present table) }
 
-module _ (shape : Shape) (me : Site) (rank t : ℕ) (id : CommandId) (s : ProcessState) (within : is_between rank shape.replicas ≡ true) where
+module _ (shape : Shape) (me : Site) (rank t : ℕ) (id : CommandId) (s : ProcessState) (within : is_from 1 shape.replicas rank ≡ true) where
   abbrev sheet : Sheet
   sheet = s.sheets id
 
@@ -104,7 +104,7 @@ module _ (shape : Shape) (me : Site) (rank t : ℕ) (id : CommandId) (s : Proces
       × (with_acknowledgement rank t (site_sheet shape me sheet) ≡ site_sheet shape me acked)
       × (IsLow shape acked → top.0 < STAMP_LIMIT)
   counted_fast top e =
-      let all = fast_if shape me id sheet acked s (is_between rank shape.replicas) can (is_full shape acked) best top within e in
+      let all = fast_if shape me id sheet acked s (is_from 1 shape.replicas rank) can (is_full shape acked) best top within e in
       (all.0, ap (λ (kept : Sheet). site_sheet shape me kept) all.1, λ low. top_low shape acked.acknowledged top low.acknowledged all.2)
 
   pub counted_slow : (top : Stamp) → choice_after_ack rank t (site_sheet shape me sheet) ≡ Some (Slow top)
@@ -112,9 +112,9 @@ module _ (shape : Shape) (me : Site) (rank t : ℕ) (id : CommandId) (s : Proces
       × (with_acknowledgement rank t (site_sheet shape me sheet) ≡ site_sheet shape me (putting shape me.rank.0 top.0 acked))
       × (IsLow shape acked → top.0 < STAMP_LIMIT)
   counted_slow top e =
-      let all = slow_if shape me id sheet acked s (is_between rank shape.replicas) can (is_full shape acked) best top within e in
+      let all = slow_if shape me id sheet acked s (is_from 1 shape.replicas rank) can (is_full shape acked) best top within e in
       (all.0, ap (λ (kept : Sheet). site_sheet shape me kept) all.1, λ low. slow_top_low shape acked.acknowledged top low.acknowledged all.2)
 
   pub counted_none : choice_after_ack rank t (site_sheet shape me sheet) ≡ None
       → Quiet shape me id sheet acked s (counted shape me rank id t s) (with_acknowledgement rank t (site_sheet shape me sheet)).sheet
-  counted_none e = quiet_if shape me id sheet acked s (is_between rank shape.replicas) can (is_full shape acked) best within e
+  counted_none e = quiet_if shape me id sheet acked s (is_from 1 shape.replicas rank) can (is_full shape acked) best within e

@@ -5,7 +5,7 @@ use Rattle.std.specs.List.{list_all, list_any}
 use Rattle.std.proofs.lemmas.Bool.{and_parts, cond_both}
 use Rattle.std.proofs.lemmas.Option.{cond_some}
 use Rattle.tp_base.proofs.Each.{each_weaker}
-use Rattle.tp_base.specs.Limits.{STAMP_LIMIT}
+use Rattle.tp_base.specs.Limits.{STAMP_LIMIT, is_from}
 use Rattle.tp_base.specs.Lists.{Each}
 use Rattle.tp_base.specs.Tables.{flat, kept_at, with_nth}
 use Rattle.tp_base.specs.declared.names.Made.{Made}
@@ -19,7 +19,7 @@ use Rattle.tp_quorum.specs.Choice.{greatest, present}
 use Rattle.tp_rules.proofs.fit.Choices.{best_fit, greatest_by_low}
 use Rattle.tp_rules.proofs.fit.Stamps.{with_fit}
 use Rattle.tp_rules.proofs.lists.Selections.{IfAny, each_replicate}
-use Rattle.tp_rules.specs.Addresses.{accessed, is_between, is_command_at}
+use Rattle.tp_rules.specs.Addresses.{accessed, is_command_at}
 use Rattle.tp_rules.specs.Sheet.{Sheet, acknowledged, blank, final_stamp, with_command, putting, stamps_of, trying, with_accepted, with_answer, with_ballot, with_proposal, with_stamp, with_vote}
 use Rattle.tp_topology.specs.Shape.{Shape, slow_size}
 
@@ -89,14 +89,14 @@ blank_low shape = record {
   answers = each_replicate IsLowAnswer shape.replicas None tt;
 }
 
-kept_homed : (shape : Shape) (c : Command) (o : Option Command) → is_between c.home.0 shape.replicas ≡ true → IsHomed shape o → IsHomed shape (Some (unwrap_or o c))
+kept_homed : (shape : Shape) (c : Command) (o : Option Command) → is_from 1 shape.replicas c.home.0 ≡ true → IsHomed shape o → IsHomed shape (Some (unwrap_or o c))
 kept_homed shape c None here h = here
 kept_homed shape c (Some d) here h = h
 
 -- a command with its home in the shape, on a partition
 pub kept_low : {shape : Shape} (p : ℕ) (c : Command) (sheet : Sheet) → is_command_at shape p c ≡ true → IsLow shape sheet → IsLow shape (with_command c sheet)
 kept_low {shape} p c sheet here h = record {
-  home = kept_homed shape c sheet.command (and_parts (is_between c.home.0 shape.replicas) (is_accessed shape.partitions c p) here).0 h.home;
+  home = kept_homed shape c sheet.command (and_parts (is_from 1 shape.replicas c.home.0) (is_accessed shape.partitions c p) here).0 h.home;
   known = h.known;
   acknowledged = h.acknowledged;
   put = h.put;

@@ -1,7 +1,7 @@
 -- How the sheets go on with the state of the rules, as a rank votes.
 use Rattle.std.proofs.Common.{◌≡◌, ℕ, ◌<◌, Bool, true, false, ◌&&◌, cond, List, [], Option, Some, None, refl, sym, ap, ◌∙◌}
 use Rattle.indexmap.specs.IndexMap.{IndexMap}
-use Rattle.tp_base.specs.Limits.{STAMP_LIMIT}
+use Rattle.tp_base.specs.Limits.{STAMP_LIMIT, is_from}
 use Rattle.tp_base.specs.declared.names.ActorName.TheVariants.{Process}
 use Rattle.tp_base.specs.declared.names.CommandId.{CommandId}
 use Rattle.tp_base.specs.declared.names.Pair.{Pair}
@@ -11,7 +11,7 @@ use Rattle.tp_process.proofs.Learning.{changed, put_back}
 use Rattle.tp_process.proofs.LowStamps.{decided_low, with_vote_low}
 use Rattle.tp_process.specs.Sheets.{ChangesSheet, sheet_at}
 use Rattle.tp_process.specs.State.{Agrees, IsLow, site_sheet}
-use Rattle.tp_rules.specs.Addresses.{is_between, site as site_of}
+use Rattle.tp_rules.specs.Addresses.{site as site_of}
 use Rattle.tp_rules.specs.Process.{Step, ProcessState, decided, on_consensus_ack, voted, with_sheet}
 use Rattle.tp_rules.specs.Sheet.{Sheet, can_vote, ring_rule, stamp_decided, with_vote}
 use Rattle.tp_sheet.specs.SiteSheet.{SiteSheet, decision_after_vote, with_vote_of}
@@ -44,7 +44,7 @@ module _ (shape : Shape) (me : Site) (id : CommandId) (sheet votes : Sheet) (s :
 module _ {S : Type 0} (shape : Shape) (me : Site) (clock told : ℕ) (pairs : List Pair) (sheets new : IndexMap CommandId SiteSheet S)
     (rank b : ℕ) (id : CommandId) (s : ProcessState)
     (change : ChangesSheet shape me sheets new id (with_vote_of rank b (sheet_at shape me sheets id)))
-    (h : Agrees shape me clock told pairs sheets s) (within : is_between rank shape.replicas ≡ true) where
+    (h : Agrees shape me clock told pairs sheets s) (within : is_from 1 shape.replicas rank ≡ true) where
   abbrev old : Sheet
   old = s.sheets id
 
@@ -70,7 +70,7 @@ module _ {S : Type 0} (shape : Shape) (me : Site) (clock told : ℕ) (pairs : Li
   pub votes_some : (t : ℕ) → decision_after_vote rank b (sheet_at shape me sheets id) ≡ Some t
       → (counted_vote shape me rank id b s ≡ decided shape me id t votes s) × Agrees shape me clock told pairs new (with_sheet id votes s) × (t < STAMP_LIMIT)
   votes_some t e =
-      let all = some_if shape me id old votes s (is_between rank shape.replicas) can (stamp_decided shape votes) t within (by_sheet (Some t) e) in (
+      let all = some_if shape me id old votes s (is_from 1 shape.replicas rank) can (stamp_decided shape votes) t within (by_sheet (Some t) e) in (
         all.0,
         keeps_now votes (ap (λ (kept : Sheet). site_sheet shape me kept) all.1) low,
         decided_low shape votes.put t low.put all.2,
@@ -85,4 +85,4 @@ module _ {S : Type 0} (shape : Shape) (me : Site) (clock told : ℕ) (pairs : Li
       → ((counted_vote shape me rank id b s).1 ≡ []) × Agrees shape me clock told pairs new (counted_vote shape me rank id b s).0
   votes_none e =
       quietly (counted_vote shape me rank id b s) (with_vote_of rank b (site_sheet shape me old)).sheet
-      (none_if shape me id old votes s (is_between rank shape.replicas) can (stamp_decided shape votes) within (by_sheet None e)) refl
+      (none_if shape me id old votes s (is_from 1 shape.replicas rank) can (stamp_decided shape votes) within (by_sheet None e)) refl

@@ -1,7 +1,7 @@
 -- What it is for a process to be where the rules leave it.
 use Rattle.std.specs.Prelude.{◌≡◌, ◌≤◌, ◌<◌, ◌-◌, ◌==◌, ◌&&◌, ℕ, nat_lt, true, Bool, cond, List, [], ◌∷◌, Option, Some, None}
 use Rattle.indexmap.specs.IndexMap.{IndexMap}
-use Rattle.tp_base.specs.Limits.{STAMP_LIMIT}
+use Rattle.tp_base.specs.Limits.{STAMP_LIMIT, is_from}
 use Rattle.tp_base.specs.Lists.{Each}
 use Rattle.tp_base.specs.declared.names.ActorName.{ActorName}
 use Rattle.tp_base.specs.declared.names.ActorName.TheVariants.{Process as OfProcess, Executor as OfExecutor}
@@ -14,7 +14,7 @@ use Rattle.tp_process.specs.Sheets.{sheet_at}
 use Rattle.tp_process.specs.declared.process.Process.{Process}
 use Rattle.tp_paxos.specs.Votes.{PutStamp}
 use Rattle.tp_rules.specs.Acts.{Act, Identity, ProcessAt}
-use Rattle.tp_rules.specs.Addresses.{is_between, message}
+use Rattle.tp_rules.specs.Addresses.{message}
 use Rattle.tp_rules.specs.Process.{Step, ProcessState, answer_with_old_proposal, state_after, untold}
 use Rattle.tp_rules.specs.Sheet.{Sheet, is_fresh, ring_rule}
 use Rattle.tp_sheet.specs.SiteSheet.{SiteSheet}
@@ -44,7 +44,7 @@ IsLowPut (Some put) = put.stamp < STAMP_LIMIT
 -- a command's home, if any, is a rank of the shape
 abbrev pub IsHomed : Shape → Option Command → Type 0
 IsHomed shape None = Unit {0}
-IsHomed shape (Some c) = is_between c.home.0 shape.replicas ≡ true
+IsHomed shape (Some c) = is_from 1 shape.replicas c.home.0 ≡ true
 
 -- what is kept of a command whose home is in the shape
 pub record IsLow (shape : Shape) (sheet : Sheet) : Type 0 where

@@ -1,7 +1,7 @@
 ghost use Rattle.std.specs.Prelude.{◌≡◌, ◌<◌, ◌++◌, true, IfOk, OnOk};
-ghost use Rattle.tp_base.specs.Limits.{STAMP_LIMIT};
+ghost use Rattle.tp_base.specs.Limits.{STAMP_LIMIT, is_from};
 ghost use Rattle.tp_process.specs.State.{IsState, identity, sheet_of};
-ghost use Rattle.tp_rules.specs.Addresses.{is_between, is_name_of, site};
+ghost use Rattle.tp_rules.specs.Addresses.{is_name_of, site};
 ghost use Rattle.tp_rules.specs.Process.{ProcessState, commit_messages, decided, on_propose_ack, put_to_vote, with_sheet};
 ghost use Rattle.tp_rules.specs.Sheet.{Sheet, ring_rule};
 ghost use Rattle.tp_wire.specs.Ranges.{IsProcess};
@@ -42,8 +42,8 @@ impl Process {
         stamp: Stamp,
     ) -> Result<Outputs, NoMemory>
         ensures identity { identity self.new ≡ identity self.old }
-        ensures outputs { IfOk result (λ outputs. (s : ProcessState) → IsState self.old s → is_between rank.0 self.old.place.topology.replicas ≡ true → stamp.0 < STAMP_LIMIT → outputs ≡ (on_propose_ack (ring_rule self.old.place.topology) self.old.place.site (ActorName.Process (site 0 rank.0)) id stamp.0 s).1) }
-        ensures state { OnOk result ((s : ProcessState) → IsState self.old s → is_between rank.0 self.old.place.topology.replicas ≡ true → stamp.0 < STAMP_LIMIT → IsState self.new (on_propose_ack (ring_rule self.old.place.topology) self.old.place.site (ActorName.Process (site 0 rank.0)) id stamp.0 s).0) }
+        ensures outputs { IfOk result (λ outputs. (s : ProcessState) → IsState self.old s → is_from 1 self.old.place.topology.replicas rank.0 ≡ true → stamp.0 < STAMP_LIMIT → outputs ≡ (on_propose_ack (ring_rule self.old.place.topology) self.old.place.site (ActorName.Process (site 0 rank.0)) id stamp.0 s).1) }
+        ensures state { OnOk result ((s : ProcessState) → IsState self.old s → is_from 1 self.old.place.topology.replicas rank.0 ≡ true → stamp.0 < STAMP_LIMIT → IsState self.new (on_propose_ack (ring_rule self.old.place.topology) self.old.place.site (ActorName.Process (site 0 rank.0)) id stamp.0 s).0) }
     {
         match acknowledge(&mut self.sheets, &self.place, id, rank, stamp) {
             Some(FastChoice::Fast(top)) => self.decide(id, top),

@@ -1,7 +1,7 @@
 ghost use Rattle.std.specs.Prelude.{◌≡◌, ◌≤◌, ◌<◌, ◌++◌, true, IfOk, OnOk};
-ghost use Rattle.tp_base.specs.Limits.{STAMP_LIMIT};
+ghost use Rattle.tp_base.specs.Limits.{STAMP_LIMIT, is_from};
 ghost use Rattle.tp_process.specs.State.{IsState, committed, identity, sheet_of};
-ghost use Rattle.tp_rules.specs.Addresses.{is_between, is_command_at};
+ghost use Rattle.tp_rules.specs.Addresses.{is_command_at};
 ghost use Rattle.tp_rules.specs.Process.{ProcessState, learned, on_commit, with_sheet};
 ghost use Rattle.tp_rules.specs.Sheet.{Sheet, ring_rule};
 
@@ -21,7 +21,7 @@ impl Process {
         stamp: Stamp,
     ) -> Result<Outputs, NoMemory>
         requires command { is_command_at self.old.place.topology self.old.place.site.partition.0 command.now ≡ true }
-        requires partition { is_between partition.0 self.old.place.topology.partitions ≡ true }
+        requires partition { is_from 1 self.old.place.topology.partitions partition.0 ≡ true }
         ensures identity { identity self.new ≡ identity self.old }
         ensures outputs { IfOk result (λ outputs. (s : ProcessState) → IsState self.old s → stamp.0 < STAMP_LIMIT → outputs ≡ (on_commit (ring_rule self.old.place.topology) self.old.place.site command.now partition.0 stamp.0 s).1) }
         ensures state { OnOk result ((s : ProcessState) → IsState self.old s → stamp.0 < STAMP_LIMIT → IsState self.new (on_commit (ring_rule self.old.place.topology) self.old.place.site command.now partition.0 stamp.0 s).0) }

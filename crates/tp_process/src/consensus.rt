@@ -1,7 +1,7 @@
 ghost use Rattle.std.specs.Prelude.{◌≡◌, ◌<◌, ◌∷◌, [], true, IfOk, OnOk};
-ghost use Rattle.tp_base.specs.Limits.{STAMP_LIMIT as the_limit};
+ghost use Rattle.tp_base.specs.Limits.{STAMP_LIMIT as the_limit, is_from};
 ghost use Rattle.tp_process.specs.State.{IsState, identity};
-ghost use Rattle.tp_rules.specs.Addresses.{is_between, is_command_at, is_name_of, message, site};
+ghost use Rattle.tp_rules.specs.Addresses.{is_command_at, is_name_of, message, site};
 ghost use Rattle.tp_rules.specs.Process.{ProcessState, on_consensus, on_consensus_ack};
 ghost use Rattle.tp_rules.specs.Sheet.{ring_rule};
 ghost use Rattle.tp_wire.specs.Ranges.{IsProcess};
@@ -61,8 +61,8 @@ impl Process {
     /// Counts a rank's vote: with the last of a consensus quorum, the stamp that is put is decided.
     fn count_vote(&mut self, rank: Rank, id: CommandId, ballot: u64) -> Result<Outputs, NoMemory>
         ensures identity { identity self.new ≡ identity self.old }
-        ensures outputs { IfOk result (λ outputs. (s : ProcessState) → IsState self.old s → is_between rank.0 self.old.place.topology.replicas ≡ true → outputs ≡ (on_consensus_ack (ring_rule self.old.place.topology) self.old.place.site (ActorName.Process (site 0 rank.0)) id ballot s).1) }
-        ensures state { OnOk result ((s : ProcessState) → IsState self.old s → is_between rank.0 self.old.place.topology.replicas ≡ true → IsState self.new (on_consensus_ack (ring_rule self.old.place.topology) self.old.place.site (ActorName.Process (site 0 rank.0)) id ballot s).0) }
+        ensures outputs { IfOk result (λ outputs. (s : ProcessState) → IsState self.old s → is_from 1 self.old.place.topology.replicas rank.0 ≡ true → outputs ≡ (on_consensus_ack (ring_rule self.old.place.topology) self.old.place.site (ActorName.Process (site 0 rank.0)) id ballot s).1) }
+        ensures state { OnOk result ((s : ProcessState) → IsState self.old s → is_from 1 self.old.place.topology.replicas rank.0 ≡ true → IsState self.new (on_consensus_ack (ring_rule self.old.place.topology) self.old.place.site (ActorName.Process (site 0 rank.0)) id ballot s).0) }
     {
         match vote(&mut self.sheets, &self.place, id, rank, ballot) {
             Some(stamp) => self.decide(id, stamp),

@@ -1,7 +1,8 @@
 ghost use Rattle.std.specs.Prelude.{◌≡◌, ◌≤◌, ◌&&◌};
+ghost use Rattle.tp_base.specs.Limits.{is_from};
 ghost use Rattle.tp_base.specs.Names.{same_name};
 ghost use Rattle.tp_process.specs.Places.{IsPlace};
-ghost use Rattle.tp_rules.specs.Addresses.{is_between, is_site_of, is_name_of, is_body_at, is_command_at};
+ghost use Rattle.tp_rules.specs.Addresses.{is_site_of, is_name_of, is_body_at, is_command_at};
 ghost use Rattle.tp_sheet.specs.SiteSheet.{IsSiteOf};
 
 use tp_base::{ActorName, PartitionId, Rank, Site};
@@ -75,13 +76,13 @@ impl Place {
     }
 
     fn has_partition(&self, partition: PartitionId) -> bool
-        ensures { result ≡ is_between partition.0 self.now.topology.partitions }
+        ensures { result ≡ is_from 1 self.now.topology.partitions partition.0 }
     {
         1 <= partition.0 && partition.0 <= self.topology.partitions()
     }
 
     fn has_rank(&self, rank: Rank) -> bool
-        ensures { result ≡ is_between rank.0 self.now.topology.replicas }
+        ensures { result ≡ is_from 1 self.now.topology.replicas rank.0 }
     {
         1 <= rank.0 && rank.0 <= self.topology.replicas()
     }

@@ -1,7 +1,7 @@
 ghost use Rattle.std.specs.Prelude.{◌≡◌, ◌<◌, ◌-◌, ◌∷◌, ◌&&◌, [], nat_lt, true, Option, None, IfOk, OnOk};
-ghost use Rattle.tp_base.specs.Limits.{STAMP_LIMIT as the_limit};
+ghost use Rattle.tp_base.specs.Limits.{STAMP_LIMIT as the_limit, is_from};
 ghost use Rattle.tp_process.specs.State.{IsState, agreed_above, answer_with, identity, sheet_of};
-ghost use Rattle.tp_rules.specs.Addresses.{is_between, is_command_at, is_name_of, site};
+ghost use Rattle.tp_rules.specs.Addresses.{is_command_at, is_name_of, site};
 ghost use Rattle.tp_rules.specs.Process.{ProcessState, asked, bumps, next_stamp, on_rec, on_rec_ack, on_rec_by_stamp, on_recover, propose_and_answer, commit_reply, with_room};
 ghost use Rattle.tp_rules.specs.Sheet.{command_or as kept_or, ring_rule, stamp_of};
 ghost use Rattle.tp_wire.specs.Ranges.{IsProcess};
@@ -86,8 +86,8 @@ impl Process {
         ballot: u64,
     ) -> Result<Outputs, NoMemory>
         ensures identity { identity self.new ≡ identity self.old }
-        ensures outputs { IfOk result (λ outputs. (s : ProcessState) → IsState self.old s → is_between told.rank.0 self.old.place.topology.replicas ≡ true → told.stamp.0 < the_limit → outputs ≡ (on_rec_ack (ring_rule self.old.place.topology) self.old.place.site (ActorName.Process (site 0 told.rank.0)) id told.stamp.0 told.made told.accepted ballot s).1) }
-        ensures state { OnOk result ((s : ProcessState) → IsState self.old s → is_between told.rank.0 self.old.place.topology.replicas ≡ true → told.stamp.0 < the_limit → IsState self.new (on_rec_ack (ring_rule self.old.place.topology) self.old.place.site (ActorName.Process (site 0 told.rank.0)) id told.stamp.0 told.made told.accepted ballot s).0) }
+        ensures outputs { IfOk result (λ outputs. (s : ProcessState) → IsState self.old s → is_from 1 self.old.place.topology.replicas told.rank.0 ≡ true → told.stamp.0 < the_limit → outputs ≡ (on_rec_ack (ring_rule self.old.place.topology) self.old.place.site (ActorName.Process (site 0 told.rank.0)) id told.stamp.0 told.made told.accepted ballot s).1) }
+        ensures state { OnOk result ((s : ProcessState) → IsState self.old s → is_from 1 self.old.place.topology.replicas told.rank.0 ≡ true → told.stamp.0 < the_limit → IsState self.new (on_rec_ack (ring_rule self.old.place.topology) self.old.place.site (ActorName.Process (site 0 told.rank.0)) id told.stamp.0 told.made told.accepted ballot s).0) }
     {
         match answer(&mut self.sheets, &self.place, id, told, ballot) {
             Some(stamp) => self.put_to_vote(id, ballot, stamp),

@@ -7,7 +7,7 @@ use Rattle.std.proofs.lemmas.Bool.{and_from, and_parts, both_ways, cases_Bool, c
 use Rattle.tp_base.proofs.Each.{each_append, each_in, each_of}
 use Rattle.tp_base.proofs.Members.{in_map}
 use Rattle.tp_base.proofs.SameNames.{same_name_refl}
-use Rattle.tp_base.specs.Limits.{IsFrom}
+use Rattle.tp_base.specs.Limits.{IsFrom, is_from}
 use Rattle.tp_base.specs.Lists.{Each, IsIn}
 use Rattle.tp_base.specs.Names.{same_name}
 use Rattle.tp_base.specs.declared.names.ActorName.{ActorName}
@@ -17,6 +17,7 @@ use Rattle.tp_base.specs.declared.names.PartitionId.{PartitionId}
 use Rattle.tp_base.specs.declared.names.Site.{Site}
 use Rattle.tp_base.specs.declared.names.Stamp.{Stamp}
 use Rattle.tp_agreement.proofs.Commits.{home_in_range}
+use Rattle.tp_base.proofs.Ranges.{range_in}
 use Rattle.tp_facts.proofs.Commands.{command_in}
 use Rattle.tp_facts.proofs.Deliveries.{sent_before, took_sent}
 use Rattle.tp_facts.proofs.Facts.{IsGenuine, KeepsCommand, sent_by}
@@ -27,14 +28,14 @@ use Rattle.tp_ops.specs.Parts.{is_accessed}
 use Rattle.tp_ops.specs.declared.command.Command.{Command}
 use Rattle.tp_rules.proofs.ActsMore.{acts_step, acts_then}
 use Rattle.tp_rules.proofs.sent.CarriedCommands.{Carries, Keeps, KeepsOnly, process_sends_only}
-use Rattle.tp_rules.proofs.fit.Messages.{IsBodyOf, IsCommandHere, IsFit, IsFitAct, is_between-from, site_is}
+use Rattle.tp_rules.proofs.fit.Messages.{IsBodyOf, IsCommandHere, IsFit, IsFitAct, site_is}
 use Rattle.tp_rules.proofs.fit.Choices.{ring_has_fast_size}
 use Rattle.tp_rules.proofs.fit.Rules.{process_sound}
 use Rattle.tp_rules.proofs.ends.LaterKinds.{session_silent}
 use Rattle.tp_rules.proofs.lists.Selections.{IfAny}
 use Rattle.tp_rules.proofs.lists.Tallies.{filter_in}
 use Rattle.tp_rules.specs.Acts.{Act, Client, Took, Did}
-use Rattle.tp_rules.specs.Addresses.{accessed, is_between, is_body_at, is_command_at, is_name_of, is_site_of, message, partition_of, rank_of, site}
+use Rattle.tp_rules.specs.Addresses.{accessed, is_body_at, is_command_at, is_name_of, is_site_of, message, partition_of, rank_of, site}
 use Rattle.tp_rules.specs.Journal.{IsSent, act_of, acts, client_of, is_known}
 use Rattle.tp_rules.specs.Process.{ProcessState, Step, on_body, react, state_after, with_room}
 use Rattle.tp_rules.specs.Runs.{IsFreeHistory, outputs_by}
@@ -135,15 +136,15 @@ module _ (script : Script) (accepted : IsAccepted script) where
   -- what a process sends is about commands that access its partition
 
   body_carries : (p : ℕ) (body : Body) → is_body_at script.topology p body ≡ true → Carries (Accesses p) body
-  body_carries p (MSubmit c) h = (and_parts (is_between c.home.0 script.topology.replicas) _ h).1
-  body_carries p (MPropose c floor) h = (and_parts (is_between c.home.0 script.topology.replicas) _ h).1
-  body_carries p (MPayload c) h = (and_parts (is_between c.home.0 script.topology.replicas) _ h).1
-  body_carries p (MConsensus c t b) h = (and_parts (is_between c.home.0 script.topology.replicas) _ h).1
+  body_carries p (MSubmit c) h = (and_parts (is_from 1 script.topology.replicas c.home.0) _ h).1
+  body_carries p (MPropose c floor) h = (and_parts (is_from 1 script.topology.replicas c.home.0) _ h).1
+  body_carries p (MPayload c) h = (and_parts (is_from 1 script.topology.replicas c.home.0) _ h).1
+  body_carries p (MConsensus c t b) h = (and_parts (is_from 1 script.topology.replicas c.home.0) _ h).1
   body_carries p (MCommit c q t) h =
-      (and_parts (is_between c.home.0 script.topology.replicas) _
-      (and_parts (is_command_at script.topology p c) (is_between q.0 script.topology.partitions) h).0).1
-  body_carries p (MRec c b) h = (and_parts (is_between c.home.0 script.topology.replicas) _ h).1
-  body_carries p (MCommitted c t) h = (and_parts (is_between c.home.0 script.topology.replicas) _ h).1
+      (and_parts (is_from 1 script.topology.replicas c.home.0) _
+      (and_parts (is_command_at script.topology p c) (is_from 1 script.topology.partitions q.0) h).0).1
+  body_carries p (MRec c b) h = (and_parts (is_from 1 script.topology.replicas c.home.0) _ h).1
+  body_carries p (MCommitted c t) h = (and_parts (is_from 1 script.topology.replicas c.home.0) _ h).1
   body_carries p _ h = tt
 
   abbrev Carried : ℕ → Message → Type 0
@@ -192,8 +193,8 @@ module _ (script : Script) (accepted : IsAccepted script) where
   pub command_at : (p : ℕ) (c : Command) → IsIn c script.commands → Accesses p c
       → is_command_at script.topology p c ≡ true
   command_at p c ours accesses =
-      and_from (is_between c.home.0 script.topology.replicas) (is_accessed script.topology.partitions c p)
-      (is_between-from c.home.0 script.topology.replicas (home_in_range script accepted c ours)) accesses
+      and_from (is_from 1 script.topology.replicas c.home.0) (is_accessed script.topology.partitions c p)
+      (range_in 1 script.topology.replicas c.home.0 (home_in_range script accepted c ours)) accesses
 
   goes_there : (c : Command) (k : Site) (to : ActorName) → to ≡ Process k → IsToAccessed script.topology c to
       → Accesses k.partition.0 c
@@ -245,7 +246,7 @@ module _ (script : Script) (accepted : IsAccepted script) where
           own_partition c (subst (Carries (Accesses by.site.partition.0)) e carries) (sym near ∙ ap partition_of to)
 
       commit_at : (c : Command) (q : PartitionId) (t : Stamp) → m.body ≡ MCommit c q t
-          → Accesses k.partition.0 c × (is_between q.0 script.topology.partitions ≡ true)
+          → Accesses k.partition.0 c × (is_from 1 script.topology.partitions q.0 ≡ true)
       commit_at c q t e =
           let goes = subst (GoesTo rule by.site (acts older (Process by.site)) m.to) e directed in
           let range = (site_is script.topology by.site by.known).0 in (
@@ -257,7 +258,7 @@ module _ (script : Script) (accepted : IsAccepted script) where
                   own_partition c (subst (Carries (Accesses by.site.partition.0)) e carries)
                   (ap partition_of (sym near.0 ∙ asked.from ∙ to))
             ],
-            is_between-from q.0 script.topology.partitions
+            range_in 1 script.topology.partitions q.0
                 (subst (IsFrom 1 script.topology.partitions) (sym goes.0) range),
           )
 
@@ -282,7 +283,7 @@ module _ (script : Script) (accepted : IsAccepted script) where
         by_body (MConsensus c t b) e range ours = command_at k.partition.0 c ours (peer_at c (MConsensus c t b) e tt)
         by_body (MCommit c q t) e range ours =
             let both = commit_at (by_process (subst IsOfProcess (sym e) tt)) c q t e in
-            and_from (is_command_at script.topology k.partition.0 c) (is_between q.0 script.topology.partitions)
+            and_from (is_command_at script.topology k.partition.0 c) (is_from 1 script.topology.partitions q.0)
             (command_at k.partition.0 c ours both.0) both.1
         by_body (MRec c b) e range ours = command_at k.partition.0 c ours (peer_at c (MRec c b) e tt)
         by_body (MCommitted c t) e range ours = absurd (subst IsExecutor to range.1)

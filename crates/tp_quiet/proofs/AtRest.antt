@@ -6,6 +6,7 @@ use Rattle.std.specs.List.{list_any, filter_map, cons_option}
 use Rattle.std.proofs.lemmas.Bool.{and_parts, and_from, cond_both, cond-false, eqb-true}
 use Rattle.tp_base.proofs.Each.{each_in}
 use Rattle.tp_base.proofs.Members.{in_get, in_left, in_right, map_in}
+use Rattle.tp_base.proofs.Ranges.{in_range}
 use Rattle.tp_base.specs.Lists.{Each, IsIn}
 use Rattle.tp_base.specs.Names.{same_name, same_site}
 use Rattle.tp_base.specs.declared.names.ActorName.{ActorName}
@@ -38,7 +39,6 @@ use Rattle.tp_wire.specs.declared.message.Message.{Message}
 use Rattle.tp_quiet.specs.Finished.{is_harm, IsHarmless}
 use Rattle.tp_topology.specs.Counting.{up_to}
 use Rattle.tp_rules.proofs.lists.UpTo.{in_up_to}
-use Rattle.tp_rules.proofs.fit.Messages.{between_is}
 
 -- lists
 
@@ -301,7 +301,7 @@ module _ (script : Script) (accepted : IsAccepted script) (harmless : IsHarmless
       (map_in (λ (n : ℕ). Session (record { 0 = n })) (up_to (length script.homes)) s.0 (session_listed s h)))
     where
       session_listed : (s : SessionId) → is_known script (Session s) ≡ true → IsIn s.0 (up_to (length script.homes))
-      session_listed s h = let range = between_is s.0 (length script.homes) h in
+      session_listed s h = let range = in_range 1 (length script.homes) s.0 h in
           in_up_to (length script.homes) s.0 range.0 range.1
 
   pub record IsAtRest (older : List Entry) : Type 0 where

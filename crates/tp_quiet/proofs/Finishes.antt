@@ -12,13 +12,14 @@ use Rattle.tp_base.specs.declared.names.CommandId.{CommandId}
 use Rattle.tp_base.specs.declared.names.SessionId.{SessionId}
 use Rattle.tp_base.specs.declared.names.Site.{Site}
 use Rattle.tp_agreement.proofs.Settles.{settled}
+use Rattle.tp_base.proofs.Ranges.{range_in}
 use Rattle.tp_facts.proofs.Commands.{accessed_from}
 use Rattle.tp_ops.specs.Parts.{is_accessed}
 use Rattle.tp_ops.specs.declared.command.Command.{Command}
 use Rattle.tp_order.proofs.Executions.{noted_is_executed}
 use Rattle.tp_order.proofs.SentCommits.{sent_commit_of}
 use Rattle.tp_replies.proofs.Submissions.{IsSubmitted}
-use Rattle.tp_rules.proofs.fit.Messages.{is_between-from, site_known}
+use Rattle.tp_rules.proofs.fit.Messages.{site_known}
 use Rattle.tp_rules.proofs.Histories.{free_history}
 use Rattle.tp_rules.proofs.sent.SendsOfProcess.{stamp}
 use Rattle.tp_rules.proofs.ends.Unannounced.{site_listed}
@@ -105,7 +106,7 @@ module _ (script : Script) (accepted : IsAccepted script) (harmless : IsHarmless
       let s : SessionId = c.id.session in
       let of : IsCommandOf script.homes c = each_in
       (IsCommandOf script.homes) script.commands c accepted.commands ours in
-      let known : is_known script (Session s) ≡ true = is_between-from s.0 (length script.homes) of.1 in
+      let known : is_known script (Session s) ≡ true = range_in 1 (length script.homes) s.0 of.1 in
       let number = number_within script accepted older free c ours in
       let all = all_submitted_by script accepted older free s (counted_answered s) (still (Session s) known) in
       (counted_submitted script s older free c.id.number number.0 (omega (arith, number.1, all))).1

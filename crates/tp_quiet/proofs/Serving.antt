@@ -3,8 +3,9 @@
 use Rattle.std.proofs.Common.{◌≡◌, ◌⊎◌, ℕ, ◌<◌, ◌≤◌, Bool, inl, inr, true, false, cond, [], length, Option, Some, None, is_some, refl, sym, ap, subst, arith}
 use Rattle.std.specs.Prelude.{◌&&◌, ◌==◌, is_none, nat_lt, not}
 use Rattle.std.proofs.lemmas.Bool.{and_from, and_parts, both_ways, cases_Bool, cond_both, eq-eqb, eqb-false, eqb-true, leb-false, lt-ltb, ltb-false}
+use Rattle.tp_base.proofs.Ranges.{in_range}
 use Rattle.tp_base.proofs.Tables.{kept_here, nth_here}
-use Rattle.tp_base.specs.Limits.{STAMP_LIMIT}
+use Rattle.tp_base.specs.Limits.{STAMP_LIMIT, is_from}
 use Rattle.tp_base.specs.Names.{same_id, same_name}
 use Rattle.tp_base.specs.Tables.{kept_at, nth}
 use Rattle.tp_base.specs.declared.names.ActorName.{ActorName}
@@ -23,8 +24,7 @@ use Rattle.tp_paxos.specs.Votes.{PutStamp, is_put_at}
 use Rattle.tp_quorum.specs.Choice.{fast_choice, present}
 use Rattle.tp_quorum.specs.declared.choice.FastChoice.{FastChoice}
 use Rattle.tp_quorum.specs.declared.choice.FastChoice.TheVariants.{Fast, Slow}
-use Rattle.tp_rules.specs.Addresses.{is_between, is_body_at, is_command_at, is_name_of, rank_of}
-use Rattle.tp_rules.proofs.fit.Messages.{between_is}
+use Rattle.tp_rules.specs.Addresses.{is_body_at, is_command_at, is_name_of, rank_of}
 use Rattle.tp_rules.specs.Acts.{Took}
 use Rattle.tp_rules.specs.Process.{Step, ProcessState, accept_and_vote, answer_recovery, answer_with_old_proposal, conclude_fast_path, follow_choice, learned, next_stamp, on_body, on_commit, on_consensus, on_consensus_ack, on_propose, on_propose_ack, on_rec_ack, on_rec_by_stamp, on_submit, propose_and_acknowledge, propose_and_answer, put_recovered, react, recovered, submitted, voted, with_room, with_sheet}
 use Rattle.tp_rules.specs.Sheet.{Proposed, QuorumRule, Sheet, acknowledged, acknowledged_own, can_accept, can_acknowledge, can_answer, can_vote, is_fresh, is_full, is_made_by_proposal, is_member, is_recovered, is_untouched, putting, stamp_decided, stamp_of, with_answer, with_command, with_proposal, with_stamp, with_vote}
@@ -351,8 +351,8 @@ module _ (s : QuorumRule) (me : Site) where
     body_serves (MConsensusAck id b) e timely names sized = serve_vote of m.from state id b timely
         (places (subst IsPeer (sym e) tt))
     body_serves (MCommit c q t) e timely names sized =
-        let range = between_is q.0 s.shape.partitions
-        (and_parts (is_command_at s.shape me.partition.0 c) (is_between q.0 s.shape.partitions) names).1 in
+        let range = in_range 1 s.shape.partitions q.0
+        (and_parts (is_command_at s.shape me.partition.0 c) (is_from 1 s.shape.partitions q.0) names).1 in
         λ on. serve_commit of m.from state c q.0 t.0 on range.0 (sized c.id q.0 range.1)
     body_serves (MRec c b) e timely names sized =
         serve_rec of m.from state c b timely (stamp_of (state.sheets c.id) me.partition.0) refl

@@ -5,7 +5,7 @@ use Rattle.std.proofs.Common.{◌≡◌, ◌≢◌, ◌⊎◌, ℕ, ◌<◌, ◌
 use Rattle.std.specs.Prelude.{is_none}
 use Rattle.std.proofs.lemmas.Bool.{and_from, both_ways, cases_eq, cases_lt}
 use Rattle.tp_base.proofs.Each.{each_in}
-use Rattle.tp_base.specs.Limits.{IsFrom}
+use Rattle.tp_base.specs.Limits.{IsFrom, is_from}
 use Rattle.tp_base.specs.Lists.{Each, IsIn}
 use Rattle.tp_base.specs.Tables.{kept_at, nth}
 use Rattle.tp_base.specs.declared.names.ActorName.{ActorName}
@@ -15,6 +15,7 @@ use Rattle.tp_base.specs.declared.names.Made.{Made}
 use Rattle.tp_base.specs.declared.names.Made.TheVariants.{Proposal, Recovery}
 use Rattle.tp_base.specs.declared.names.Site.{Site}
 use Rattle.tp_agreement.proofs.KnownStamps.{acts_are_sent}
+use Rattle.tp_base.proofs.Ranges.{range_in}
 use Rattle.tp_facts.proofs.Commands.{command_in, command_in_names}
 use Rattle.tp_facts.proofs.Consequences.{put_of, said_of}
 use Rattle.tp_facts.proofs.Deliveries.{took_sent}
@@ -26,12 +27,12 @@ use Rattle.tp_facts.proofs.Senders.{sent_by_process}
 use Rattle.tp_facts.specs.Settled.{sheet_at}
 use Rattle.tp_ops.specs.declared.command.Command.{Command}
 use Rattle.tp_paxos.specs.Votes.{PutStamp}
-use Rattle.tp_rules.proofs.fit.Messages.{is_between-from, site_is}
+use Rattle.tp_rules.proofs.fit.Messages.{site_is}
 use Rattle.tp_rules.proofs.fit.Choices.{ring_has_fast_size}
 use Rattle.tp_rules.proofs.lists.Selections.{IfAny}
 use Rattle.tp_rules.proofs.sent.SendsOfProcess.{stamp}
 use Rattle.tp_rules.specs.Acts.{Act, Took}
-use Rattle.tp_rules.specs.Addresses.{is_between, is_site_of, message, rank_of, site}
+use Rattle.tp_rules.specs.Addresses.{is_site_of, message, rank_of, site}
 use Rattle.tp_rules.specs.Journal.{IsSent, acts}
 use Rattle.tp_rules.specs.Process.{state_after}
 use Rattle.tp_rules.specs.Runs.{IsFreeHistory}
@@ -87,8 +88,8 @@ module _ (script : Script) (older : List Entry) (run : IsTakenIn script older) (
   sheet k = sheet_at script older p k c.id
 
   is_here : (k : ℕ) → IsRank k → is_site_of script.topology (site p k) ≡ true
-  is_here k range = and_from (is_between p script.topology.partitions) (is_between k script.topology.replicas)
-      (is_between-from p script.topology.partitions part) (is_between-from k script.topology.replicas range)
+  is_here k range = and_from (is_from 1 script.topology.partitions p) (is_from 1 script.topology.replicas k)
+      (range_in 1 script.topology.partitions p part) (range_in 1 script.topology.replicas k range)
 
   facts : (k : ℕ) → IsRank k → FactsAt script of older (site p k)
   facts k range = run_holds script of run.accepted (command_in_names script run.accepted) older run.history (site p k)

@@ -4,6 +4,7 @@ use Rattle.std.specs.Option.{option_or}
 use Rattle.std.specs.Prelude.{is_none, nat_le, option_map, ◌==◌, ◌&&◌}
 use Rattle.std.specs.List.{list_any}
 use Rattle.std.proofs.lemmas.Bool.{and_from, and_parts, cases_Bool, cond_both, cond-true, eq-eqb, eqb-true, le-leb}
+use Rattle.tp_base.proofs.Ranges.{range_in}
 use Rattle.tp_base.proofs.Tables.{kept_here}
 use Rattle.tp_base.specs.Names.{same_id, same_name}
 use Rattle.tp_base.proofs.SameNames.{same_id_is, same_name_is, same_name_refl}
@@ -35,7 +36,6 @@ use Rattle.tp_topology.specs.Shape.{Shape}
 use Rattle.tp_wire.specs.declared.message.Body.{Body}
 use Rattle.tp_wire.specs.declared.message.Body.TheVariants.{MResult}
 use Rattle.tp_wire.specs.declared.message.Message.{Message}
-use Rattle.tp_rules.proofs.fit.Messages.{is_between-from}
 use Rattle.tp_rules.proofs.ends.Unsubmitted.{submitted_covers}
 use Rattle.tp_replies.specs.SessionReply.{session_of}
 use Rattle.tp_replies.specs.Stores.{partition_contents, partition_ops}
@@ -172,7 +172,7 @@ module _ (script : Script) (accepted : IsAccepted script) (id : CommandId) (c : 
         let accepts : Accepts state from answers = h q answers (λ i. MResult (same i) q answers) here in
         let yes : b ≡ true =
         sym e ∙ and_from (is_name_of shape from) (is_body_at shape 0 (MResult d q answers)) accepts.named
-        (is_between-from q.0 shape.partitions (omega (arith, here, within.0), omega (arith, here, within.1))) in
+        (range_in 1 shape.partitions q.0 (omega (arith, here, within.0), omega (arith, here, within.1))) in
         let moved : session.Step = session.on_result shape client d q.0 answers state in
         ap (λ (t : Bool). kept (cond {A = session.Step} t moved (state, [])).0) yes
         ∙ ap (λ (i : CommandId). kept (session.on_result shape client i q.0 answers state).0) same

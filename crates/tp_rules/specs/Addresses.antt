@@ -1,5 +1,6 @@
 -- Who sends to whom, and which messages an actor takes at all.
-use Rattle.std.specs.Prelude.{ℕ, ◌==◌, ◌&&◌, nat_le, not, Bool, true, List, map, filter}
+use Rattle.std.specs.Prelude.{ℕ, ◌==◌, ◌&&◌, not, Bool, true, List, map, filter}
+use Rattle.tp_base.specs.Limits.{is_from}
 use Rattle.tp_base.specs.declared.names.ActorName.{ActorName}
 use Rattle.tp_base.specs.declared.names.ActorName.TheVariants.{Process, Executor, Session}
 use Rattle.tp_base.specs.declared.names.Site.{Site}
@@ -47,11 +48,8 @@ partition_of (Process s) = s.partition.0
 partition_of (Executor s) = s.partition.0
 partition_of (Session id) = 0
 
-abbrev pub is_between : ℕ → ℕ → Bool
-is_between n high = nat_le 1 n && nat_le n high
-
 abbrev pub is_site_of : Shape → Site → Bool
-is_site_of shape s = is_between s.partition.0 shape.partitions && is_between s.rank.0 shape.replicas
+is_site_of shape s = is_from 1 shape.partitions s.partition.0 && is_from 1 shape.replicas s.rank.0
 
 abbrev pub is_name_of : Shape → ActorName → Bool
 is_name_of shape (Process s) = is_site_of shape s
@@ -60,7 +58,7 @@ is_name_of shape (Session id) = true
 
 -- a command whose home is a rank, and that accesses a partition
 abbrev pub is_command_at : Shape → ℕ → Command → Bool
-is_command_at shape p c = is_between c.home.0 shape.replicas && is_accessed shape.partitions c p
+is_command_at shape p c = is_from 1 shape.replicas c.home.0 && is_accessed shape.partitions c p
 
 -- no partition or rank is outside the shape, and a command accesses the partition
 abbrev pub is_body_at : Shape → ℕ → Body → Bool
@@ -71,10 +69,10 @@ is_body_at shape p (MProposeAck id t) = true
 is_body_at shape p (MBump id t) = true
 is_body_at shape p (MConsensus c t b) = is_command_at shape p c
 is_body_at shape p (MConsensusAck id b) = true
-is_body_at shape p (MCommit c q t) = is_command_at shape p c && is_between q.0 shape.partitions
+is_body_at shape p (MCommit c q t) = is_command_at shape p c && is_from 1 shape.partitions q.0
 is_body_at shape p (MRec c b) = is_command_at shape p c
 is_body_at shape p (MRecAck id t made a b) = true
 is_body_at shape p (MPromises lo hi pairs) = true
 is_body_at shape p (MCommitted c t) = is_command_at shape p c
 is_body_at shape p (MStable id) = true
-is_body_at shape p (MResult id q answers) = is_between q.0 shape.partitions
+is_body_at shape p (MResult id q answers) = is_from 1 shape.partitions q.0

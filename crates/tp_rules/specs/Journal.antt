@@ -1,6 +1,7 @@
 -- Journals, the newest entry first: what was sent, and who did what. Entries and places count from 1.
 use Rattle.std.specs.Prelude.{ℕ, suc, ◌⊎◌, ◌==◌, ◌&&◌, not, Bool, true, false, cond, List, [], ◌∷◌, ◌++◌, Option, Some, None, length, option_map, map, unwrap_or}
 use Rattle.std.specs.List.{list_any}
+use Rattle.tp_base.specs.Limits.{is_from}
 use Rattle.tp_base.specs.Lists.{IsIn}
 use Rattle.tp_base.specs.Names.{same_name}
 use Rattle.tp_base.specs.Tables.{nth}
@@ -10,7 +11,7 @@ use Rattle.tp_base.specs.declared.names.SessionId.{SessionId}
 use Rattle.tp_base.specs.declared.names.Site.{Site}
 use Rattle.tp_ops.specs.declared.command.Command.{Command}
 use Rattle.tp_rules.specs.Acts.{Act, Took, Did, Client, Identity, ProcessAt, ExecutorAt, SessionOf}
-use Rattle.tp_rules.specs.Addresses.{is_site_of, is_between, site}
+use Rattle.tp_rules.specs.Addresses.{is_site_of, site}
 use Rattle.tp_rules.specs.declared.event.Entry.{Entry}
 use Rattle.tp_rules.specs.declared.event.Event.{Event}
 use Rattle.tp_rules.specs.declared.event.Event.TheVariants.{Deliver, Dropped, Inner as OfItself}
@@ -76,7 +77,7 @@ identity_in script (Session s) = SessionOf script.topology (client_of script s)
 abbrev pub is_known : Script → ActorName → Bool
 is_known script (Process s) = is_site_of script.topology s
 is_known script (Executor s) = is_site_of script.topology s
-is_known script (Session s) = is_between s.0 (length script.homes)
+is_known script (Session s) = is_from 1 (length script.homes) s.0
 
 abbrev pub is_crash : Event → Bool
 is_crash (OfItself Crash) = true

@@ -8,10 +8,11 @@ use Rattle.tp_base.specs.Names.{same_name}
 use Rattle.tp_base.specs.declared.names.ActorName.{ActorName}
 use Rattle.tp_journal.specs.Entered.{is_crash_of}
 use Rattle.std.proofs.lemmas.Bool.{and_from, le-leb}
+use Rattle.tp_base.specs.Limits.{is_from}
 use Rattle.tp_base.specs.declared.names.ActorName.TheVariants.{Process, Executor}
 use Rattle.tp_base.specs.declared.names.Rank.{Rank}
 use Rattle.tp_rules.specs.Acts.{Did, Identity}
-use Rattle.tp_rules.specs.Addresses.{is_between, is_site_of}
+use Rattle.tp_rules.specs.Addresses.{is_site_of}
 use Rattle.tp_rules.specs.Plan.{asked_of, by_time, due, if_due, plan_of}
 use Rattle.tp_rules.specs.Rules.{enabled, outputs_of}
 use Rattle.tp_rules.specs.Runs.{FollowsLine, IsRun}
@@ -41,7 +42,7 @@ pub submit_may : (script : Script) (n number : ℕ) (outputs : List Message) (se
 unfolding MayFollow
 submit_may script n number outputs session small low high new may sends = record {
   rules = record {
-    known = ap (λ (l : List Rank). is_between n (length l)) small.homes ∙ and_from _ _ (le-leb 1 n low) (le-leb n 2 high);
+    known = ap (λ (l : List Rank). is_from 1 (length l) n) small.homes ∙ and_from _ _ (le-leb 1 n low) (le-leb n 2 high);
     live = refl;
     may = sym (may ∙ ap (λ (i : Identity). enabled i []) new.identity);
     outputs = sends ∙ ap (λ (i : Identity). outputs_of i [] (Did (Submit number))) new.identity;

@@ -1,6 +1,7 @@
 -- A sheet with the site that keeps it, and what a call makes of it.
 use Rattle.std.specs.Prelude.{ℕ, ◌≤◌, ◌==◌, ◌&&◌, nat_lt, Bool, cond, Option, Some, None, is_none, is_some, length}
 use Rattle.std.specs.Option.{option_map}
+use Rattle.tp_base.specs.Limits.{is_from}
 use Rattle.tp_base.specs.declared.names.Rank.{Rank}
 use Rattle.tp_base.specs.declared.names.Site.{Site}
 use Rattle.tp_choice.specs.Choosing.{recovery_choice}
@@ -9,7 +10,6 @@ use Rattle.tp_ops.specs.declared.command.Command.{Command}
 use Rattle.tp_quorum.specs.Choice.{present, fast_choice}
 use Rattle.tp_quorum.specs.declared.choice.FastChoice.{FastChoice}
 use Rattle.tp_quorum.specs.declared.choice.FastChoice.TheVariants.{Fast, Slow}
-use Rattle.tp_rules.specs.Addresses.{is_between}
 use Rattle.tp_rules.specs.Process.{has_next}
 use Rattle.tp_rules.specs.Sheet.{Sheet, blank, can_acknowledge, acknowledged, acknowledged_own, is_full, is_made_by_proposal, is_member, putting, can_accept, with_accepted, can_vote, with_vote, stamp_decided, made_of, stamp_told, with_ballot, trying, can_answer, with_answer, is_recovered, ring_rule, stamp_of, with_stamp, final_stamp}
 use Rattle.tp_topology.specs.Ballots.{next_ballot}
@@ -42,7 +42,7 @@ proposal_of sheet = option_map (λ p. p.stamp) sheet.proposal
 -- whether the acknowledgement of a rank of the shape counts here
 abbrev pub takes_acknowledgement : ℕ → SiteSheet → Bool
 takes_acknowledgement rank kept =
-    is_between rank kept.shape.replicas
+    is_from 1 kept.shape.replicas rank
     && can_acknowledge (ring_rule kept.shape) kept.site.partition.0 kept.site.rank.0 rank kept.sheet
 
 -- whether the first proposal of a rank counts
@@ -86,7 +86,7 @@ with_acceptance t b kept =
 
 -- whether the vote of a rank of the shape counts here, at a ballot
 abbrev pub takes_vote : ℕ → ℕ → SiteSheet → Bool
-takes_vote rank b kept = is_between rank kept.shape.replicas && can_vote kept.site.partition.0 b kept.sheet
+takes_vote rank b kept = is_from 1 kept.shape.replicas rank && can_vote kept.site.partition.0 b kept.sheet
 
 -- the decision that a rank's vote leads to
 abbrev pub decision_after_vote : ℕ → ℕ → SiteSheet → Option ℕ
@@ -129,12 +129,12 @@ with_try kept = with_sheet (trying_at kept.shape (ballot_by kept) kept.sheet) ke
 
 -- whether the answer of a rank of the shape counts here, at a ballot
 abbrev pub takes_answer : ℕ → ℕ → SiteSheet → Bool
-takes_answer rank b kept = is_between rank kept.shape.replicas && can_answer kept.site.partition.0 b rank kept.sheet
+takes_answer rank b kept = is_from 1 kept.shape.replicas rank && can_answer kept.site.partition.0 b rank kept.sheet
 
 -- the home of a command, where it is a rank of the shape
 abbrev pub home_within : Shape → Option Command → Option Rank
 home_within shape None = None
-home_within shape (Some c) = cond (is_between c.home.0 shape.replicas) (Some c.home) None
+home_within shape (Some c) = cond (is_from 1 shape.replicas c.home.0) (Some c.home) None
 
 -- what the answers lead to, by the command's home
 abbrev pub recovery_of : Shape → Sheet → Option Rank → Option ℕ

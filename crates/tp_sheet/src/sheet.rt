@@ -1,6 +1,6 @@
 ghost use Rattle.std.specs.Prelude.{◌≡◌, ◌≤◌, ◌&&◌, is_some};
 ghost use Rattle.std.specs.Option.{option_copied, option_map};
-ghost use Rattle.tp_rules.specs.Addresses.{is_between};
+ghost use Rattle.tp_base.specs.Limits.{is_from};
 ghost use Rattle.tp_rules.specs.Sheet.{is_fresh, with_command, putting, stamp_of, with_proposal};
 ghost use Rattle.tp_sheet.specs.SiteSheet.{IsSiteOf, blank_at, proposal_of, with_sheet};
 
@@ -125,7 +125,7 @@ impl Sheet {
     }
 
     pub(crate) fn has_rank(&self, rank: Rank) -> bool
-        ensures { result ≡ is_between rank.0 self.now.shape.replicas }
+        ensures { result ≡ is_from 1 self.now.shape.replicas rank.0 }
     {
         1 <= rank.0 && rank.0 <= self.topology.replicas()
     }
@@ -146,7 +146,7 @@ impl Sheet {
 
 /// Whether a partition is one of the shape.
 pub(crate) fn is_partition(topology: &Topology, partition: PartitionId) -> bool
-    ensures { result ≡ is_between partition.0 topology.now.partitions }
+    ensures { result ≡ is_from 1 topology.now.partitions partition.0 }
 {
     1 <= partition.0 && partition.0 <= topology.partitions()
 }

@@ -3,7 +3,7 @@
 use Rattle.std.proofs.Common.{◌≡◌, ℕ, ◌+◌, ◌<◌, ◌≤◌, Bool, true, false, List, [], ◌∷◌, Some, length, refl, sym, ap, subst, ◌∙◌, arith}
 use Rattle.std.specs.Prelude.{◌&&◌, is_none, is_some, nat_lt, nat_le}
 use Rattle.std.proofs.lemmas.Bool.{cond_both, le-ltb, leb-true, and_parts}
-use Rattle.tp_base.specs.Limits.{STAMP_LIMIT}
+use Rattle.tp_base.specs.Limits.{STAMP_LIMIT, is_from}
 use Rattle.tp_base.specs.Lists.{IsIn}
 use Rattle.tp_base.specs.Names.{same_name}
 use Rattle.tp_base.proofs.Members.{map_in, flat_in}
@@ -11,7 +11,7 @@ use Rattle.tp_base.specs.declared.names.ActorName.{ActorName}
 use Rattle.tp_base.specs.declared.names.ActorName.TheVariants.{Process}
 use Rattle.tp_base.specs.declared.names.Site.{Site}
 use Rattle.tp_rules.specs.Acts.{Act, Took, Did}
-use Rattle.tp_rules.specs.Addresses.{site, is_name_of, is_body_at, is_between, is_site_of}
+use Rattle.tp_rules.specs.Addresses.{site, is_name_of, is_body_at, is_site_of}
 use Rattle.tp_rules.specs.Process as process
 use Rattle.tp_rules.specs.Journal.{act_of, acts, is_known, ranks_of}
 use Rattle.tp_rules.specs.Left.{place_of, has_untold, unannounced}
@@ -38,7 +38,7 @@ pub site_listed : (script : Script) (s : Site) → is_site_of script.topology s 
 site_listed script s e =
     let p = s.partition.0 in
     let k = s.rank.0 in
-    let parts = and_parts (is_between p script.topology.partitions) (is_between k script.topology.replicas) e in
+    let parts = and_parts (is_from 1 script.topology.partitions p) (is_from 1 script.topology.replicas k) e in
     let ps = and_parts (nat_le 1 p) (nat_le p script.topology.partitions) parts.0 in
     let ks = and_parts (nat_le 1 k) (nat_le k script.topology.replicas) parts.1 in
     let here : IsIn s (ranks_of script p) =

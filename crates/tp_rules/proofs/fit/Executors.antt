@@ -5,7 +5,8 @@ use Rattle.std.specs.List.{flat_map}
 use Rattle.std.specs.Prelude.{filter, not, ◌==◌, ◌&&◌}
 use Rattle.std.specs.Str.{bytes_eq}
 use Rattle.tp_base.proofs.Each.{each_in, each_weaker}
-use Rattle.tp_base.specs.Limits.{IsFrom}
+use Rattle.tp_base.proofs.Ranges.{range_in}
+use Rattle.tp_base.specs.Limits.{IsFrom, is_from}
 use Rattle.tp_base.specs.Lists.{Each, has}
 use Rattle.tp_base.specs.Names.{key_lt, same_id, same_name}
 use Rattle.tp_base.specs.declared.names.ActorName.{ActorName}
@@ -19,10 +20,10 @@ use Rattle.tp_ops.specs.Store.{Contents, after, after_all, answer_of, answers_of
 use Rattle.tp_ops.specs.declared.command.Command.{Command}
 use Rattle.tp_ops.specs.declared.operation.Op.{Op}
 use Rattle.tp_ops.specs.declared.operation.Op.TheVariants.{Get, Put, Del, Cas}
-use Rattle.tp_rules.proofs.fit.Messages.{IsBodyOf, IsCommandHere, IsExecutorOf, IsFit, IsFitAct, command_in_range, each_executor, each_other_accessed, is_between-from, site_in_range, site_is}
+use Rattle.tp_rules.proofs.fit.Messages.{IsBodyOf, IsCommandHere, IsExecutorOf, IsFit, IsFitAct, command_in_range, each_executor, each_other_accessed, site_in_range, site_is}
 use Rattle.tp_rules.proofs.lists.Selections.{IfAny, each_filter, each_image, each_spread, filter_shorter, filter_some}
 use Rattle.tp_rules.specs.Acts.{Act, Took, Did}
-use Rattle.tp_rules.specs.Addresses.{executors_of, is_between, is_body_at, is_name_of, is_site_of, message, others_accessed, partition_of, rank_of}
+use Rattle.tp_rules.specs.Addresses.{executors_of, is_body_at, is_name_of, is_site_of, message, others_accessed, partition_of, rank_of}
 use Rattle.tp_rules.specs.Executor.{Committed, ExecutorState, Step, committed_ids, declarations, declare_least, execute_least, executed, least, lesser, on_body, on_committed, on_promises, on_stable, react, state_after, waiting}
 use Rattle.tp_rules.specs.declared.event.Inner.TheVariants.{Announce, Declare, Execute}
 use Rattle.tp_script.specs.Accepted.{IsAccepted, IsCommandOf}
@@ -125,7 +126,7 @@ module _ (script : Script) (accepted : IsAccepted script) (me : Site) (here : is
         record { committed = sound.committed; contents = after_all_fit ops state.contents each_op sound.contents },
         (
           record {
-            known = is_between-from c.id.session.0 (length script.homes) is_of.1;
+            known = range_in 1 (length script.homes) c.id.session.0 is_of.1;
             range = (
               site_in_range script.topology accepted.shape me.partition.0 me.rank.0 of.0 of.1,
               is_command.0.0,
@@ -195,7 +196,7 @@ module _ (script : Script) (accepted : IsAccepted script) (me : Site) (here : is
       → is_body_at script.topology me.partition.0 body ≡ true → Goes (on_body me from body state)
   body_fit from (MPromises lo hi pairs) state sound ours at = promises_fit state from lo hi pairs sound
   body_fit from (MCommitted c t) state sound ours at =
-      let both = and_parts (is_between c.home.0 script.topology.replicas) (is_accessed script.topology.partitions c me.partition.0) at in
+      let both = and_parts (is_from 1 script.topology.replicas c.home.0) (is_accessed script.topology.partitions c me.partition.0) at in
       committed_fit state c t.0 sound (record { ours = ours; accesses = both.1 })
   body_fit from (MStable id) state sound ours at = stable_fit state from id sound
   body_fit from _ state sound ours at = (sound, tt)

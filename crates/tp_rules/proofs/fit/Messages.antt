@@ -4,7 +4,8 @@ use Rattle.std.proofs.Common.{◌≡◌, ℕ, true, arith}
 use Rattle.std.proofs.lemmas.Bool.{and_parts, leb-true}
 use Rattle.std.specs.Prelude.{nat_le}
 use Rattle.tp_base.proofs.Each.{each_in, each_weaker}
-use Rattle.tp_base.specs.Limits.{IsFrom, IsSite}
+use Rattle.tp_base.proofs.Ranges.{in_range, range_in}
+use Rattle.tp_base.specs.Limits.{IsFrom, IsSite, is_from}
 use Rattle.tp_base.specs.Lists.{Each, IsIn}
 use Rattle.tp_base.specs.declared.names.ActorName.{ActorName}
 use Rattle.tp_base.specs.declared.names.ActorName.TheVariants.{Process, Executor, Session}
@@ -15,7 +16,7 @@ use Rattle.tp_ops.specs.declared.command.Command.{Command}
 use Rattle.tp_rules.proofs.sent.EachSent.{TookOnly}
 use Rattle.tp_rules.proofs.lists.Selections.{each_filter, each_image, each_up_to}
 use Rattle.tp_rules.specs.Acts.{Act}
-use Rattle.tp_rules.specs.Addresses.{accessed, executors_of, is_between, is_name_of, is_site_of, others_accessed, processes_of, site}
+use Rattle.tp_rules.specs.Addresses.{accessed, executors_of, is_name_of, is_site_of, others_accessed, processes_of, site}
 use Rattle.tp_rules.specs.Journal.{is_known}
 use Rattle.tp_script.specs.Accepted.{IsAccepted, IsCommandOf}
 use Rattle.tp_script.specs.declared.script.Script.{Script}
@@ -60,21 +61,13 @@ pub command_in_range : (script : Script) (c : Command) → IsAccepted script →
 command_in_range script c accepted h =
     let of : IsCommandOf script.homes c = each_in (IsCommandOf script.homes) script.commands c accepted.commands h in of.0
 
-pub between_is : (n high : ℕ) → is_between n high ≡ true → IsFrom 1 high n
-between_is n high h =
-    let both : (nat_le 1 n ≡ true) × (nat_le n high ≡ true) = and_parts (nat_le 1 n) (nat_le n high) h in
-    (leb-true 1 n both.0, leb-true n high both.1)
-
-pub is_between-from : (n high : ℕ) → IsFrom 1 high n → is_between n high ≡ true
-is_between-from n high of = grind (arith, of.0, of.1)
-
 -- numbers of a shape are in the ranges of names
 
 pub site_is : (shape : Shape) (s : Site) → is_site_of shape s ≡ true
     → IsFrom 1 shape.partitions s.partition.0 × IsFrom 1 shape.replicas s.rank.0
 site_is shape s h =
-    let both = and_parts (is_between s.partition.0 shape.partitions) (is_between s.rank.0 shape.replicas) h in
-    (between_is s.partition.0 shape.partitions both.0, between_is s.rank.0 shape.replicas both.1)
+    let both = and_parts (is_from 1 shape.partitions s.partition.0) (is_from 1 shape.replicas s.rank.0) h in
+    (in_range 1 shape.partitions s.partition.0 both.0, in_range 1 shape.replicas s.rank.0 both.1)
 
 pub site_in_range : (shape : Shape) → IsShape shape → (p k : ℕ) → IsFrom 1 shape.partitions p → IsFrom 1 shape.replicas k → IsSite (site p k)
 site_in_range shape is_shape p k of_partition of_rank = (
@@ -91,7 +84,7 @@ each_other_accessed shape c p = each_filter (IsFrom 1 shape.partitions) _ (acces
 
 pub site_known : (shape : Shape) (p k : ℕ) → IsFrom 1 shape.partitions p → IsFrom 1 shape.replicas k → is_site_of shape (site p k) ≡ true
 site_known shape p k of_partition of_rank =
-    grind (arith, is_between-from p shape.partitions of_partition, is_between-from k shape.replicas of_rank)
+    grind (arith, range_in 1 shape.partitions p of_partition, range_in 1 shape.replicas k of_rank)
 
 -- a process of the script
 abbrev pub IsProcessOf : Script → ActorName → Type 0

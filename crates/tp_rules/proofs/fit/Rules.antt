@@ -4,7 +4,7 @@ use Rattle.std.proofs.lemmas.Bool.{and_parts, cond_both, eqb-true, ltb-true}
 use Rattle.std.specs.Prelude.{is_none, is_some, nat_lt, slice_get, ◌==◌, ◌&&◌}
 use Rattle.tp_base.proofs.Each.{each_append, each_in}
 use Rattle.tp_base.proofs.Members.{map_in}
-use Rattle.tp_base.specs.Limits.{IsFrom, STAMP_LIMIT}
+use Rattle.tp_base.specs.Limits.{IsFrom, STAMP_LIMIT, is_from}
 use Rattle.tp_base.specs.Lists.{Each, IsIn}
 use Rattle.tp_base.specs.Names.{same_name}
 use Rattle.tp_base.specs.declared.names.ActorName.{ActorName}
@@ -29,7 +29,7 @@ use Rattle.tp_rules.proofs.fit.Sends.{announced_fit, asked_fit, bumps_fit, commi
 use Rattle.tp_rules.proofs.fit.Stamps.{IsChoiceInRange, choice_number, final_number, kept_fit, present_fit}
 use Rattle.tp_rules.proofs.lists.Selections.{IfAny, each_get}
 use Rattle.tp_rules.specs.Acts.{Act, Took, Did}
-use Rattle.tp_rules.specs.Addresses.{is_between, is_body_at, is_name_of, is_site_of, rank_of}
+use Rattle.tp_rules.specs.Addresses.{is_body_at, is_name_of, is_site_of, rank_of}
 use Rattle.tp_rules.specs.Process.{Step, ProcessState, accept_and_vote, answer_with_old_proposal, announced, answer, bumps, follow_choice, commit_messages, decided, finished, conclude_fast_path, has_next, answer_recovery, learned, next_stamp, on_announce, on_body, on_commit, on_consensus, on_consensus_ack, on_payload, on_propose, on_propose_ack, on_rec, on_rec_ack, on_rec_by_stamp, on_recover, on_submit, proposals, propose_and_acknowledge, propose_and_answer, put_recovered, react, recovered, recovering, state_after, submitted, voted, with_room, with_sheet}
 use Rattle.tp_rules.specs.Sheet.{QuorumRule, Sheet, acknowledged, acknowledged_own, can_accept, can_acknowledge, can_answer, can_vote, command_or, final_stamp, stamp_decided, is_fresh, is_full, is_recovered, is_untouched, with_command, putting, stamp_of, trying, with_accepted, with_answer, with_ballot, with_proposal, with_stamp, with_vote}
 use Rattle.tp_rules.specs.declared.event.Inner.TheVariants.{Announce, Recover}
@@ -416,15 +416,15 @@ module _ (script : Script) (accepted : IsAccepted script) (in_quorum : Command �
 
   -- a message brings a command that accesses the partition
   brought : (c : Command) → IsIn c script.commands
-      → (is_between c.home.0 script.topology.replicas && is_accessed script.topology.partitions c me.partition.0) ≡ true → IsHere c
+      → (is_from 1 script.topology.replicas c.home.0 && is_accessed script.topology.partitions c me.partition.0) ≡ true → IsHere c
   brought c ours at =
-      let both = and_parts (is_between c.home.0 script.topology.replicas) (is_accessed script.topology.partitions c me.partition.0) at in
+      let both = and_parts (is_from 1 script.topology.replicas c.home.0) (is_accessed script.topology.partitions c me.partition.0) at in
       record { ours = ours; accesses = both.1 }
 
   commit_brought : (c : Command) (q : ℕ) → IsIn c script.commands
-      → (is_between c.home.0 script.topology.replicas && is_accessed script.topology.partitions c me.partition.0
-      && is_between q script.topology.partitions) ≡ true → IsHere c
-  commit_brought c q ours at = brought c ours (and_parts _ (is_between q script.topology.partitions) at).0
+      → (is_from 1 script.topology.replicas c.home.0 && is_accessed script.topology.partitions c me.partition.0
+      && is_from 1 script.topology.partitions q) ≡ true → IsHere c
+  commit_brought c q ours at = brought c ours (and_parts _ (is_from 1 script.topology.partitions q) at).0
 
   body_fit : (from to : ActorName) (body : Body) (state : ProcessState) → IsSound state → IsBody from to body → IsBodyOf script body
       → is_name_of script.topology from ≡ true → is_body_at script.topology me.partition.0 body ≡ true → Goes (on_body quorum_rule me from body state)

@@ -3,7 +3,8 @@ use Rattle.std.proofs.Common.{◌≡◌, ℕ, zero, suc, ◌<◌, true, List, []
 use Rattle.std.proofs.lemmas.Bool.{cond_both}
 use Rattle.std.specs.Prelude.{option_map, slice_get, unwrap_or}
 use Rattle.tp_base.proofs.Each.{each_of, each_weaker}
-use Rattle.tp_base.specs.Limits.{IsFrom}
+use Rattle.tp_base.proofs.Ranges.{in_range}
+use Rattle.tp_base.specs.Limits.{IsFrom, is_from}
 use Rattle.tp_base.specs.Lists.{Each, IsIn}
 use Rattle.tp_base.specs.Tables.{nth}
 use Rattle.tp_base.specs.declared.names.ActorName.TheVariants.{Process, Session}
@@ -12,10 +13,10 @@ use Rattle.tp_base.specs.declared.names.Rank.{Rank}
 use Rattle.tp_base.specs.declared.names.SessionId.{SessionId}
 use Rattle.tp_ops.specs.declared.command.Command.{Command}
 use Rattle.tp_ops.specs.declared.operation.Answer.{Answer}
-use Rattle.tp_rules.proofs.fit.Messages.{IsFit, between_is, command_in_range, each_accessed, site_in_range, site_known}
+use Rattle.tp_rules.proofs.fit.Messages.{IsFit, command_in_range, each_accessed, site_in_range, site_known}
 use Rattle.tp_rules.proofs.lists.Selections.{IfAny, each_filter, each_get, each_image}
 use Rattle.tp_rules.specs.Acts.{Act, Took, Did, Client}
-use Rattle.tp_rules.specs.Addresses.{accessed, is_between, message, site}
+use Rattle.tp_rules.specs.Addresses.{accessed, message, site}
 use Rattle.tp_rules.specs.Journal.{client_of, commands_of, session_home}
 use Rattle.tp_rules.specs.Session.{Step, SessionState, on_body, on_result, react, submissions}
 use Rattle.tp_rules.specs.declared.event.Inner.TheVariants.{Submit, Announce}
@@ -40,9 +41,9 @@ result_quiet : (shape : Shape) (client : Client) (id : CommandId) (q : ℕ) (ans
     → (on_result shape client id q answers state).1 ≡ []
 result_quiet shape client id q answers state = grind arith
 
-module _ (script : Script) (accepted : IsAccepted script) (s : SessionId) (known : is_between s.0 (length script.homes) ≡ true) where
+module _ (script : Script) (accepted : IsAccepted script) (s : SessionId) (known : is_from 1 (length script.homes) s.0 ≡ true) where
   of_session : IsFrom 1 (length script.homes) s.0
-  of_session = between_is s.0 (length script.homes) known
+  of_session = in_range 1 (length script.homes) s.0 known
 
   of_home : IsFrom 1 script.topology.replicas (session_home script s)
   of_home = home_nth script.homes s.0 script.topology.replicas accepted.homes of_session
