@@ -17,7 +17,7 @@ use Rattle.tp_rules.proofs.sent.EachSent.{history_passes}
 use Rattle.tp_rules.proofs.fit.Messages.{IsBodyOf, IsFit}
 use Rattle.tp_rules.proofs.fit.InRange.{fit_handed_on}
 use Rattle.tp_rules.proofs.lists.Selections.{each_get}
-use Rattle.tp_rules.specs.Addresses.{accessed, is_site_of}
+use Rattle.tp_rules.specs.Addresses.{accessed}
 use Rattle.tp_rules.specs.Journal.{IsSent}
 use Rattle.tp_rules.specs.Outcome.{Commit, commit_by, commits}
 use Rattle.tp_rules.specs.Runs.{IsFreeHistory}
@@ -32,6 +32,7 @@ use Rattle.tp_facts.proofs.Commands.{command_in, command_in_names}
 use Rattle.tp_facts.proofs.Senders.{IsOfProcess, sender_of, output_sender}
 use Rattle.tp_agreement.proofs.KnownStamps.{sheet_at_site}
 use Rattle.tp_agreement.proofs.Moment.{Moment, SentBy, is_true, moment_at}
+use Rattle.tp_topology.specs.Shape.{is_site_of}
 
 -- what is left by a filter comes from an item
 from_filter_map : {X Y : Type 0} (f : X → Option Y) (xs : List X) (y : Y) → IsIn y (filter_map f xs)

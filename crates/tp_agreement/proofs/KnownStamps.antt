@@ -9,7 +9,6 @@ use Rattle.tp_base.specs.declared.names.Site.{Site}
 use Rattle.tp_base.specs.declared.names.Stamp.{Stamp}
 use Rattle.tp_ops.specs.declared.command.Command.{Command}
 use Rattle.tp_rules.proofs.sent.SendsOfProcess.{stamp}
-use Rattle.tp_rules.specs.Addresses.{is_site_of}
 use Rattle.tp_rules.specs.Journal.{acts, IsSent}
 use Rattle.tp_rules.specs.Process.{state_after}
 use Rattle.tp_rules.specs.Runs.{IsFreeHistory, outputs_by}
@@ -28,6 +27,7 @@ use Rattle.tp_facts.proofs.Consequences.{sender}
 use Rattle.tp_agreement.proofs.Decisions.{Decided, fast_path, slow_path}
 use Rattle.tp_agreement.proofs.LaterMoments.{decided_later}
 use Rattle.tp_agreement.proofs.Moment.{IsRank, Moment, SentBy, acts_of, command, facts_of, id_of_command, is_true, moment_at, named, process, put, received_from, sent_of, quorum_rule, shape, sheet}
+use Rattle.tp_topology.specs.Shape.{is_site_of}
 
 -- what a process sent by its acts was sent
 pub acts_are_sent : (script : Script) (older : List Entry) → IsFreeHistory script older → (k : Site) (n : Message)

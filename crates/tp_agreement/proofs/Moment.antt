@@ -12,7 +12,7 @@ use Rattle.tp_ops.specs.declared.command.Command.{Command}
 use Rattle.tp_rules.proofs.fit.Choices.{ring_has_fast_size}
 use Rattle.tp_rules.proofs.sent.SendsOfProcess.{stamp}
 use Rattle.tp_rules.specs.Acts.{Act, Took}
-use Rattle.tp_rules.specs.Addresses.{is_site_of, rank_of, site}
+use Rattle.tp_rules.specs.Addresses.{rank_of, site}
 use Rattle.tp_rules.specs.Journal.{IsSent, acts}
 use Rattle.tp_rules.specs.Process.{state_after}
 use Rattle.tp_rules.specs.Runs.{IsFreeHistory}
@@ -21,7 +21,7 @@ use Rattle.tp_rules.specs.declared.event.Entry.{Entry}
 use Rattle.tp_script.specs.Accepted.{IsAccepted}
 use Rattle.tp_script.specs.declared.script.Script.{Script}
 use Rattle.tp_topology.specs.Counting.{count_up_to}
-use Rattle.tp_topology.specs.Shape.{Shape, fast_size}
+use Rattle.tp_topology.specs.Shape.{Shape, fast_size, is_site_of}
 use Rattle.tp_wire.specs.declared.message.Body.{Body}
 use Rattle.tp_wire.specs.declared.message.Body.TheVariants.{MConsensus}
 use Rattle.tp_wire.specs.declared.message.Message.{Message}

@@ -4,7 +4,6 @@ ghost use Rattle.tp_check.specs.Causes.{IsCause};
 ghost use Rattle.tp_check.specs.Steps.{IsAble, IsAllowed, message_flaw, output_flaw};
 ghost use Rattle.tp_driver.specs.Cast.{AllStand};
 ghost use Rattle.tp_netbook.specs.Ledger.{IsLedger};
-ghost use Rattle.tp_rules.specs.Addresses.{is_site_of};
 ghost use Rattle.tp_rules.specs.Acts.{Act};
 ghost use Rattle.tp_rules.specs.Journal.{is_known, output_at};
 ghost use Rattle.tp_rules.specs.Runs.{IsLegal, IsRun};
@@ -13,13 +12,12 @@ ghost use Rattle.tp_script.specs.Accepted.{IsAccepted};
 use crate::same::difference;
 use crate::verdict::EntryCause;
 use std::alloc::Global;
-use tp_base::{ActorName, NoMemory, Site};
+use tp_base::{ActorName, NoMemory};
 use tp_driver::act;
 use tp_journal::output;
 use tp_netbook::{Ledger, place_of};
 use tp_rules::{Actor, Entry, Event, Inner, Item};
 use tp_script::Script;
-use tp_topology::Topology;
 use tp_wire::Message;
 
 /// The cause of an entry after some others, if it has one. Else its actor has made the step.
@@ -91,20 +89,11 @@ fn is_known(script: &Script, actor: ActorName) -> bool
     ensures { result ≡ is_known script.now actor }
 {
     match actor {
-        ActorName::Process(site) | ActorName::Executor(site) => is_site_of(&script.topology, site),
+        ActorName::Process(site) | ActorName::Executor(site) => script.topology.has_site(site),
         ActorName::Session(session) => {
             1 <= session.0 && usize::from(session.0) <= script.homes.len()
         }
     }
-}
-
-fn is_site_of(topology: &Topology, site: Site) -> bool
-    ensures { result ≡ is_site_of topology.now site }
-{
-    1 <= site.partition.0
-        && site.partition.0 <= topology.partitions()
-        && 1 <= site.rank.0
-        && site.rank.0 <= topology.replicas()
 }
 
 /// What is wrong with the message that an entry delivers or loses.

@@ -19,7 +19,6 @@ use Rattle.tp_rules.proofs.sent.EachSent.{acts_pass, history_passes}
 use Rattle.tp_rules.proofs.fit.Messages.{IsBodyOf, IsFit, IsFitAct, site_is}
 use Rattle.tp_rules.proofs.fit.InRange.{fit_handed_on}
 use Rattle.tp_rules.specs.Acts.{Act, Took, Did}
-use Rattle.tp_rules.specs.Addresses.{is_site_of}
 use Rattle.tp_rules.specs.Journal.{acts, IsSent}
 use Rattle.tp_rules.specs.Journal.{acts}
 use Rattle.tp_rules.specs.Process.{state_after}
@@ -28,7 +27,7 @@ use Rattle.tp_rules.specs.Sheet.{ring_rule}
 use Rattle.tp_rules.specs.declared.event.Entry.{Entry}
 use Rattle.tp_script.specs.Accepted.{IsAccepted}
 use Rattle.tp_script.specs.declared.script.Script.{Script}
-use Rattle.tp_topology.specs.Shape.{IsShape}
+use Rattle.tp_topology.specs.Shape.{IsShape, is_site_of}
 use Rattle.tp_wire.specs.Ranges.{IsBody}
 use Rattle.tp_wire.specs.declared.message.Body.TheVariants.{MConsensus}
 use Rattle.tp_wire.specs.declared.message.Body.TheVariants.{MSubmit, MPropose, MPayload, MConsensus, MCommit, MRec, MRecAck, MCommitted}

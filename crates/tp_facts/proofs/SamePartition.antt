@@ -15,7 +15,7 @@ use Rattle.tp_rules.proofs.lists.Selections.{each_image}
 use Rattle.tp_rules.proofs.sent.SendsOfProcess.{bumps_send, commit_messages_send, each_to, stamp}
 use Rattle.tp_rules.specs.Acts.{Act, Took, Did}
 use Rattle.tp_rules.specs.Acts.{Took}
-use Rattle.tp_rules.specs.Addresses.{is_site_of, partition_of, rank_of, site}
+use Rattle.tp_rules.specs.Addresses.{partition_of, rank_of, site}
 use Rattle.tp_rules.specs.Addresses.{message, partition_of, processes_of, site, to_each}
 use Rattle.tp_rules.specs.Journal.{acts, IsSent}
 use Rattle.tp_rules.specs.Journal.{acts, IsSent}
@@ -33,6 +33,7 @@ use Rattle.tp_facts.proofs.Facts.{sent_by}
 use Rattle.tp_facts.proofs.Senders.{IsOfProcess, sender_of, sent_by_process}
 use Rattle.tp_wire.specs.declared.message.Body.TheVariants.{MSubmit, MPropose, MPayload, MProposeAck, MConsensus, MConsensusAck, MRec, MRecAck, MPromises, MStable, MResult}
 use Rattle.tp_facts.proofs.StepCases.{SheetStep, ProcessStep, IsFinal, untold as tells_none, final, does_nothing, bumps_clock, announces, passes_commit_on, changes_sheet, attaches_proposal, submits, submits_and_acknowledges, proposes, decides_fast, puts_slow, accepts, decides_by_votes, learns, proposes_and_answers_recovery, answers_recovery, puts_recovered, starts_recovery}
+use Rattle.tp_topology.specs.Shape.{is_site_of}
 
 -- kinds of messages that go between the processes of a partition
 abbrev pub IsPeer : Body → Type 0

@@ -21,7 +21,6 @@ use Rattle.tp_rules.specs.Acts.{Act, Client, Took, Did}
 use Rattle.tp_rules.specs.Acts.{Act, Took, Did, Client}
 use Rattle.tp_rules.specs.Acts.{Took}
 use Rattle.tp_rules.specs.Addresses.{is_name_of, is_body_at}
-use Rattle.tp_rules.specs.Addresses.{is_site_of}
 use Rattle.tp_rules.specs.Executor as executor
 use Rattle.tp_rules.specs.Journal.{act_of, acts, client_of, is_known, IsSent}
 use Rattle.tp_rules.specs.Journal.{acts, act_of, client_of, identity_in}
@@ -38,7 +37,7 @@ use Rattle.tp_rules.specs.declared.event.Entry.{Entry}
 use Rattle.tp_rules.specs.declared.event.Inner.TheVariants.{Submit, Declare, Execute}
 use Rattle.tp_rules.specs.declared.event.Inner.TheVariants.{Submit, Recover, Announce, Declare, Execute}
 use Rattle.tp_script.specs.declared.script.Script.{Script}
-use Rattle.tp_topology.specs.Shape.{Shape}
+use Rattle.tp_topology.specs.Shape.{Shape, is_site_of}
 use Rattle.tp_wire.specs.declared.message.Body.TheVariants.{MPropose, MProposeAck, MConsensus, MConsensusAck, MRecAck, MCommit}
 use Rattle.tp_wire.specs.declared.message.Body.TheVariants.{MStable, MSubmit}
 use Rattle.tp_wire.specs.declared.message.Body.TheVariants.{MSubmit, MPropose, MPayload, MProposeAck, MConsensus, MConsensusAck, MCommit, MRec, MRecAck, MStable, MResult}

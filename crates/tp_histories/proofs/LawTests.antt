@@ -18,12 +18,13 @@ use Rattle.tp_facts.proofs.Tables.{all_in, any_in}
 use Rattle.tp_ops.specs.declared.command.Command.{Command}
 use Rattle.tp_ops.specs.declared.operation.Answer.{Answer}
 use Rattle.tp_rules.proofs.lists.UpTo.{in_up_to}
-use Rattle.tp_rules.specs.Addresses.{is_site_of, site}
+use Rattle.tp_rules.specs.Addresses.{site}
 use Rattle.tp_rules.specs.Laws.{CommitsAgree, IsCommitted, IsLawful, IsShareOrdered, LineKeepsRealTime, LineOrders, RepliesAreSequential}
 use Rattle.tp_rules.specs.Outcome.{Commit, accesses, command_of, commits, executions, first_result, is_submission_of, key_in, line, precedes, reply_from, reply_to, sequential_answers, share, stamp_in, those_before}
 use Rattle.tp_rules.specs.declared.event.Entry.{Entry}
 use Rattle.tp_script.specs.declared.script.Script.{Script}
 use Rattle.tp_topology.specs.Counting.{up_to}
+use Rattle.tp_topology.specs.Shape.{is_site_of}
 
 -- agreement: each commit has the stamp of the first one of its command
 

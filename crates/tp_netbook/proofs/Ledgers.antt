@@ -31,7 +31,6 @@ use Rattle.tp_netbook.specs.declared.output.Output.{Output}
 use Rattle.tp_netbook.specs.declared.watch.Watch.{Watch}
 use Rattle.tp_rules.proofs.Histories.{free_history}
 use Rattle.tp_rules.proofs.sent.Parcels.{length-numbered, output_sent, parcel, sent_within}
-use Rattle.tp_rules.specs.Addresses.{is_site_of}
 use Rattle.tp_rules.specs.Journal.{has_crashed, is_known, is_live, numbered, output_at, sent}
 use Rattle.tp_rules.specs.Pending.{sites_of}
 use Rattle.tp_rules.specs.Plan.{Fate, Lost, Times, deliveries_left, due_of, fate_by, fate_of, is_planned, left_by}
@@ -44,6 +43,7 @@ use Rattle.tp_rules.specs.declared.event.Parcel.{Parcel}
 use Rattle.tp_script.specs.Accepted.{IsAccepted}
 use Rattle.tp_script.specs.declared.script.PlanLine.{PlanLine}
 use Rattle.tp_script.specs.declared.script.Script.{Script}
+use Rattle.tp_topology.specs.Shape.{is_site_of}
 use Rattle.tp_wire.specs.declared.message.Message.{Message}
 
 -- slots

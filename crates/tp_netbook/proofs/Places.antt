@@ -15,12 +15,12 @@ use Rattle.tp_base.specs.declared.names.ActorName.TheVariants.{Process, Executor
 use Rattle.tp_base.specs.declared.names.Site.{Site}
 use Rattle.tp_netbook.specs.Places.{place_of, place_of_site}
 use Rattle.tp_rules.proofs.fit.Messages.{site_is, site_known}
-use Rattle.tp_rules.specs.Addresses.{is_site_of, site}
+use Rattle.tp_rules.specs.Addresses.{site}
 use Rattle.tp_rules.specs.Journal.{is_known, ranks_of}
 use Rattle.tp_rules.specs.Pending.{actors_of, sites_of}
 use Rattle.tp_script.specs.declared.script.Script.{Script}
 use Rattle.tp_topology.specs.Counting.{up_to}
-use Rattle.tp_topology.specs.Shape.{IsShape}
+use Rattle.tp_topology.specs.Shape.{IsShape, is_site_of}
 
 -- what a list of two parts has at a place
 split_get : {X : Type 0} (xs ys : List X) (k : ℕ) (x : X) → slice_get (xs ++ ys) k ≡ Some x

@@ -18,13 +18,13 @@ use Rattle.tp_netbook.specs.declared.line.Line.{Line}
 use Rattle.tp_netbook.specs.declared.netbook.Netbook.{Netbook}
 use Rattle.tp_netbook.specs.declared.watch.Watch.{Watch}
 use Rattle.tp_rules.proofs.lists.Tallies.{count_no, count_yes, filter_length, filter_no, filter_yes}
-use Rattle.tp_rules.specs.Addresses.{is_site_of}
 use Rattle.tp_rules.specs.Journal.{has_crashed, is_crash, is_known, is_live}
 use Rattle.tp_rules.specs.Pending.{due_item, inner_item, sites_of}
 use Rattle.tp_rules.specs.Plan.{Planned, due, due_of, entries_of, if_due, is_planned, plan_of}
 use Rattle.tp_rules.specs.declared.event.Entry.{Entry}
 use Rattle.tp_rules.specs.declared.event.Inner.{Inner}
 use Rattle.tp_script.specs.declared.script.Script.{Script}
+use Rattle.tp_topology.specs.Shape.{is_site_of}
 
 none_within : {X : Type 0} (xs : List X) (k : ℕ) → k < length xs → slice_get xs k ≡ None → ⊥
 none_within [] k lt e = omega arith

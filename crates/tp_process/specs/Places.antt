@@ -1,8 +1,7 @@
 -- Where a process is.
 use Rattle.std.specs.Prelude.{◌≤◌}
 use Rattle.tp_base.specs.declared.names.Site.{Site}
-use Rattle.tp_sheet.specs.SiteSheet.{IsSiteOf}
-use Rattle.tp_topology.specs.Shape.{Shape}
+use Rattle.tp_topology.specs.Shape.{Shape, IsSiteOf}
 
 -- a site of a shape that is not too large
 pub record IsPlace (shape : Shape) (site : Site) : Type 0 where

@@ -1,9 +1,8 @@
 ghost use Rattle.std.specs.Prelude.{◌≡◌, ◌≤◌, ◌&&◌};
-ghost use Rattle.tp_base.specs.Limits.{is_from};
 ghost use Rattle.tp_base.specs.Names.{same_name};
 ghost use Rattle.tp_process.specs.Places.{IsPlace};
-ghost use Rattle.tp_rules.specs.Addresses.{is_site_of, is_name_of, is_body_at, is_command_at};
-ghost use Rattle.tp_sheet.specs.SiteSheet.{IsSiteOf};
+ghost use Rattle.tp_rules.specs.Addresses.{is_name_of, is_body_at, is_command_at};
+ghost use Rattle.tp_topology.specs.Shape.{IsSiteOf};
 
 use tp_base::{ActorName, PartitionId, Rank, Site};
 use tp_ops::{Command, accesses};
@@ -63,28 +62,9 @@ impl Place {
         ensures { result ≡ is_name_of self.now.topology name }
     {
         match name {
-            ActorName::Process(site) => self.has_site(site),
-            ActorName::Executor(site) => self.has_site(site),
+            ActorName::Process(site) | ActorName::Executor(site) => self.topology.has_site(site),
             ActorName::Session(_) => true,
         }
-    }
-
-    fn has_site(&self, site: Site) -> bool
-        ensures { result ≡ is_site_of self.now.topology site }
-    {
-        self.has_partition(site.partition) && self.has_rank(site.rank)
-    }
-
-    fn has_partition(&self, partition: PartitionId) -> bool
-        ensures { result ≡ is_from 1 self.now.topology.partitions partition.0 }
-    {
-        1 <= partition.0 && partition.0 <= self.topology.partitions()
-    }
-
-    fn has_rank(&self, rank: Rank) -> bool
-        ensures { result ≡ is_from 1 self.now.topology.replicas rank.0 }
-    {
-        1 <= rank.0 && rank.0 <= self.topology.replicas()
     }
 
     fn takes_body(&self, body: &Body) -> bool
@@ -106,7 +86,7 @@ impl Place {
                 command,
                 partition,
                 stamp: _,
-            } => self.takes_command(command) && self.has_partition(*partition),
+            } => self.takes_command(command) && self.topology.has_partition(*partition),
             Body::MRec { command, ballot: _ } => self.takes_command(command),
             Body::MRecAck {
                 id: _,
@@ -126,7 +106,7 @@ impl Place {
                 id: _,
                 partition,
                 answers: _,
-            } => self.has_partition(*partition),
+            } => self.topology.has_partition(*partition),
         }
     }
 
@@ -134,7 +114,7 @@ impl Place {
     fn takes_command(&self, command: &Command) -> bool
         ensures { result ≡ is_command_at self.now.topology self.now.site.partition.0 command.now }
     {
-        self.has_rank(command.home)
+        self.topology.has_rank(command.home)
             && accesses(command, self.topology.partitions(), self.site.partition)
     }
 }

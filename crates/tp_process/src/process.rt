@@ -5,7 +5,7 @@ ghost use Rattle.tp_clock.specs.Clocks.{Promised};
 ghost use Rattle.tp_rules.specs.Acts.{Act, ProcessAt};
 ghost use Rattle.tp_rules.specs.Process.{ProcessState, bumped, on_inner, on_message, proposing, state_after, with_sheet};
 ghost use Rattle.tp_rules.specs.Sheet.{Sheet, final_stamp as final_stamp_in, ring_rule};
-ghost use Rattle.tp_sheet.specs.SiteSheet.{IsSiteOf};
+ghost use Rattle.tp_topology.specs.Shape.{IsSiteOf};
 ghost use Rattle.tp_wire.specs.Ranges.{IsInRange};
 
 use crate::place::Place;

@@ -35,7 +35,7 @@ use Rattle.tp_rules.proofs.ends.LaterKinds.{session_silent}
 use Rattle.tp_rules.proofs.lists.Selections.{IfAny}
 use Rattle.tp_rules.proofs.lists.Tallies.{filter_in}
 use Rattle.tp_rules.specs.Acts.{Act, Client, Took, Did}
-use Rattle.tp_rules.specs.Addresses.{accessed, is_body_at, is_command_at, is_name_of, is_site_of, message, partition_of, rank_of, site}
+use Rattle.tp_rules.specs.Addresses.{accessed, is_body_at, is_command_at, is_name_of, message, partition_of, rank_of, site}
 use Rattle.tp_rules.specs.Journal.{IsSent, act_of, acts, client_of, is_known}
 use Rattle.tp_rules.specs.Process.{ProcessState, Step, on_body, react, state_after, with_room}
 use Rattle.tp_rules.specs.Runs.{IsFreeHistory, outputs_by}
@@ -54,6 +54,7 @@ use Rattle.tp_wire.specs.declared.message.Message.{Message}
 use Rattle.tp_quiet.proofs.Destinations.{IsDirected, GoesTo, IsToAccessed, all_directed}
 use Rattle.tp_quiet.proofs.Room.{sent_has_room}
 use Rattle.tp_quiet.proofs.TakenWell.{AreAdmitted, are_genuine, fits, is_here}
+use Rattle.tp_topology.specs.Shape.{is_site_of}
 
 -- who sends is of the shape
 pub from_named : (script : Script) (older : List Entry) → IsFreeHistory script older → (m : Message) → IsSent older m

@@ -22,7 +22,7 @@ use Rattle.tp_rules.proofs.sent.SendsOfProcess.{stamp}
 use Rattle.tp_rules.proofs.lists.Tallies.{filter_in, in_filter}
 use Rattle.tp_rules.proofs.ends.Unexecuted.{executor_of}
 use Rattle.tp_rules.proofs.lists.UpTo.{in_up_to}
-use Rattle.tp_rules.specs.Addresses.{accessed, is_body_at, is_name_of, is_site_of, message, site}
+use Rattle.tp_rules.specs.Addresses.{accessed, is_body_at, is_name_of, message, site}
 use Rattle.tp_rules.specs.Executor.{Committed, committed_ids}
 use Rattle.tp_rules.specs.Journal.{IsSent, acts}
 use Rattle.tp_rules.specs.Sheet.{ring_rule}
@@ -39,6 +39,7 @@ use Rattle.tp_quiet.proofs.Served.{Knows}
 use Rattle.tp_quiet.proofs.Stuck.{IsTakenIn, someone_knows}
 use Rattle.tp_quiet.proofs.Submitted.{submission, submission_sent}
 use Rattle.tp_quiet.proofs.TellsExecutor.{all_tell_final}
+use Rattle.tp_topology.specs.Shape.{is_site_of}
 
 module _ (script : Script) (older : List Entry) (run : IsTakenIn script older) where
   abbrev of : CommandId → Command

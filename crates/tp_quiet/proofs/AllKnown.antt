@@ -29,7 +29,7 @@ use Rattle.tp_rules.proofs.fit.Messages.{site_is}
 use Rattle.tp_rules.proofs.lists.Tallies.{in_filter}
 use Rattle.tp_rules.proofs.lists.UpTo.{in_up_to}
 use Rattle.tp_rules.specs.Acts.{Act, Took}
-use Rattle.tp_rules.specs.Addresses.{accessed, is_site_of, message, site}
+use Rattle.tp_rules.specs.Addresses.{accessed, message, site}
 use Rattle.tp_rules.specs.Journal.{IsSent, act_of, acts}
 use Rattle.tp_rules.specs.Process.{react, state_after}
 use Rattle.tp_rules.specs.Runs.{IsFreeHistory}
@@ -51,6 +51,7 @@ use Rattle.tp_quiet.proofs.Served.{Knows}
 use Rattle.tp_quiet.proofs.Stuck.{IsTakenIn}
 use Rattle.tp_quiet.proofs.TakenWell.{are_genuine, is_here}
 use Rattle.tp_quiet.proofs.TellsAll.{act_tells}
+use Rattle.tp_topology.specs.Shape.{is_site_of}
 
 -- the command of an identifier has it
 pub named_id : (cs : List Command) (id : CommandId) → (command_in cs id).id ≡ id

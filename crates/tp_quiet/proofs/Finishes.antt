@@ -25,7 +25,7 @@ use Rattle.tp_rules.proofs.sent.SendsOfProcess.{stamp}
 use Rattle.tp_rules.proofs.ends.Unannounced.{site_listed}
 use Rattle.tp_rules.proofs.ends.Unexecuted.{executor_of}
 use Rattle.tp_rules.proofs.ends.Unsubmitted.{command_numbered, submitted_by}
-use Rattle.tp_rules.specs.Addresses.{accessed, is_site_of, message, site}
+use Rattle.tp_rules.specs.Addresses.{accessed, message, site}
 use Rattle.tp_rules.specs.Journal.{IsSent, acts, commands_of, identity_in, is_known}
 use Rattle.tp_rules.specs.Outcome.{first_result, reply_to}
 use Rattle.tp_rules.specs.Pending.{IsQuiet, pending, sites_of}
@@ -45,6 +45,7 @@ use Rattle.tp_quiet.proofs.IdleExecutors.{idle}
 use Rattle.tp_quiet.proofs.QuietRun.{taken_in}
 use Rattle.tp_quiet.proofs.Stuck.{IsTakenIn}
 use Rattle.tp_quiet.specs.Finished.{IsCommandFinished, IsFinished, IsHarmless}
+use Rattle.tp_topology.specs.Shape.{is_site_of}
 
 module _ (script : Script) (accepted : IsAccepted script) (harmless : IsHarmless script) (older : List Entry)
     (history : IsHistory script older) (quiet : pending script older ≡ []) where

@@ -37,7 +37,7 @@ use Rattle.tp_rules.proofs.sent.SendsOfProcess.{stamp}
 use Rattle.tp_rules.proofs.lists.Tallies.{filter_in, in_filter}
 use Rattle.tp_rules.proofs.ends.Unannounced.{site_listed}
 use Rattle.tp_rules.proofs.ends.Unexecuted.{executor_of}
-use Rattle.tp_rules.specs.Addresses.{accessed, is_name_of, is_site_of, message, others_accessed, site}
+use Rattle.tp_rules.specs.Addresses.{accessed, is_name_of, message, others_accessed, site}
 use Rattle.tp_rules.specs.Executor.{Committed, Heard, committed_ids, is_heard, is_undeclared}
 use Rattle.tp_rules.specs.Journal.{IsSent, acts, identity_in, is_known}
 use Rattle.tp_rules.specs.Pending.{sites_of}
@@ -61,6 +61,7 @@ use Rattle.tp_quiet.proofs.ExecutorsHear.{IsNamed, all_heeded}
 use Rattle.tp_quiet.proofs.Room.{listed_is, process_at, sound}
 use Rattle.tp_quiet.proofs.Stuck.{IsTakenIn}
 use Rattle.tp_quiet.proofs.Submitted.{committed_submitted, kept_submitted}
+use Rattle.tp_topology.specs.Shape.{is_site_of}
 
 -- who owns an attached number
 attached_in : (pairs : List Pair) (n : ℕ) (id : CommandId) → attached_to pairs n ≡ Some id

@@ -29,7 +29,7 @@ use Rattle.tp_rules.proofs.lists.Tallies.{lower_total, total_bound}
 use Rattle.tp_rules.proofs.ends.Unannounced.{site_listed}
 use Rattle.tp_rules.proofs.lists.UpTo.{flat_length, length-up_to, map_length}
 use Rattle.tp_rules.specs.Acts.{Act, Took, Did}
-use Rattle.tp_rules.specs.Addresses.{is_site_of, site}
+use Rattle.tp_rules.specs.Addresses.{site}
 use Rattle.tp_rules.specs.Journal.{IsSent, act_of, acts, ranks_of}
 use Rattle.tp_rules.specs.Left.{total}
 use Rattle.tp_rules.specs.Pending.{sites_of}
@@ -40,7 +40,7 @@ use Rattle.tp_rules.specs.declared.event.Entry.{Entry}
 use Rattle.tp_script.specs.Accepted.{IsAccepted}
 use Rattle.tp_script.specs.declared.script.Script.{Script}
 use Rattle.tp_topology.specs.Counting.{up_to}
-use Rattle.tp_topology.specs.Shape.{IsShape}
+use Rattle.tp_topology.specs.Shape.{IsShape, is_site_of}
 use Rattle.tp_wire.specs.declared.message.Body.{Body}
 use Rattle.tp_wire.specs.declared.message.Body.TheVariants.{MSubmit, MStable, MResult}
 use Rattle.tp_wire.specs.declared.message.Message.{Message}

@@ -32,7 +32,7 @@ use Rattle.tp_rules.proofs.fit.Choices.{ring_has_fast_size}
 use Rattle.tp_rules.proofs.lists.Selections.{IfAny}
 use Rattle.tp_rules.proofs.sent.SendsOfProcess.{stamp}
 use Rattle.tp_rules.specs.Acts.{Act, Took}
-use Rattle.tp_rules.specs.Addresses.{is_site_of, message, rank_of, site}
+use Rattle.tp_rules.specs.Addresses.{message, rank_of, site}
 use Rattle.tp_rules.specs.Journal.{IsSent, acts}
 use Rattle.tp_rules.specs.Process.{state_after}
 use Rattle.tp_rules.specs.Runs.{IsFreeHistory}
@@ -53,6 +53,7 @@ use Rattle.tp_quiet.proofs.OwnCounted.{IsToAnother, all_own}
 use Rattle.tp_quiet.proofs.Proposals.{HasAcknowledged, HasReason, IsReasoned}
 use Rattle.tp_quiet.proofs.Served.{IsAcknowledged, IsServed, Knows}
 use Rattle.tp_quiet.proofs.Standing.{HasAnswered, IsSpread}
+use Rattle.tp_topology.specs.Shape.{is_site_of}
 
 -- a journal in which each process took well all that was sent to it
 pub record IsTakenIn (script : Script) (older : List Entry) : Type 0 where

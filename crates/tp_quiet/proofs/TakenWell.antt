@@ -22,7 +22,7 @@ use Rattle.tp_rules.proofs.sent.EachSent.{acts_pass, history_passes}
 use Rattle.tp_rules.proofs.fit.Messages.{IsBodyOf, IsFit, IsFitAct, site_is}
 use Rattle.tp_rules.proofs.fit.InRange.{fit_handed_on}
 use Rattle.tp_rules.specs.Acts.{Act, Took, Did}
-use Rattle.tp_rules.specs.Addresses.{is_site_of, rank_of, site}
+use Rattle.tp_rules.specs.Addresses.{rank_of, site}
 use Rattle.tp_rules.specs.Journal.{IsSent, act_of, acts}
 use Rattle.tp_rules.specs.Process.{state_after}
 use Rattle.tp_rules.specs.Runs.{IsFreeHistory}
@@ -41,6 +41,7 @@ use Rattle.tp_quiet.proofs.OwnCounted.{IsToAnother}
 use Rattle.tp_quiet.proofs.Questions.{AsksFairly, IsFair, all_fair}
 use Rattle.tp_quiet.proofs.Replies.{CameFrom, IsRepliedTo, IsReply, all_replied}
 use Rattle.tp_quiet.proofs.Serving.{HasProposed, IsAdmitted, IsTimely}
+use Rattle.tp_topology.specs.Shape.{is_site_of}
 
 -- each message that was taken was admitted
 abbrev pub AreAdmitted : QuorumRule → Site → List Act → Type 0

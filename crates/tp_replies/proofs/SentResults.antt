@@ -19,7 +19,6 @@ use Rattle.tp_ops.specs.declared.operation.Answer.{Answer}
 use Rattle.tp_ops.specs.Parts.{ops_on}
 use Rattle.tp_ops.specs.Store.{Contents, answers_of, empty}
 use Rattle.tp_rules.specs.Acts.{Took}
-use Rattle.tp_rules.specs.Addresses.{is_site_of}
 use Rattle.tp_rules.specs.Executor as executor
 use Rattle.tp_rules.specs.Journal.{act_of, is_known, output_at, IsSent}
 use Rattle.tp_rules.specs.Outcome.{at_end, executed_by, executions, ops_of}
@@ -41,6 +40,7 @@ use Rattle.tp_replies.specs.Stores.{partition_contents}
 use Rattle.tp_replies.proofs.Execution.{Execution, execution}
 use Rattle.tp_replies.proofs.ExecutorStores.{store_of}
 use Rattle.tp_ops.specs.declared.operation.Op.{Op}
+use Rattle.tp_topology.specs.Shape.{is_site_of}
 
 -- an executor's order of executions only grows
 executions_grow : (older : List Entry) (e : Entry) (s : Site)

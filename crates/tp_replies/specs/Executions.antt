@@ -9,11 +9,11 @@ use Rattle.tp_ops.specs.declared.command.Command.{Command}
 use Rattle.tp_ops.specs.declared.operation.Answer.{Answer}
 use Rattle.tp_ops.specs.Parts.{is_on, merged}
 use Rattle.tp_ops.specs.Store.{answers_of, empty}
-use Rattle.tp_rules.specs.Addresses.{is_site_of}
 use Rattle.tp_rules.specs.Outcome.{command_of, executions}
 use Rattle.tp_rules.specs.declared.event.Entry.{Entry}
 use Rattle.tp_script.specs.declared.script.Script.{Script}
 use Rattle.tp_replies.specs.Stores.{partition_contents, partition_ops}
+use Rattle.tp_topology.specs.Shape.{is_site_of}
 
 -- an executor of a partition executed a command for the first time, with these answers
 pub record IsExecuted (script : Script) (older : List Entry) (id : CommandId) (p : ℕ)

@@ -7,7 +7,7 @@ use Rattle.tp_base.specs.declared.names.Site.{Site}
 use Rattle.tp_ops.specs.declared.command.Command.{Command}
 use Rattle.tp_ops.specs.Parts.{is_accessed}
 use Rattle.tp_topology.specs.Counting.{up_to}
-use Rattle.tp_topology.specs.Shape.{Shape}
+use Rattle.tp_topology.specs.Shape.{Shape, is_site_of}
 use Rattle.tp_wire.specs.declared.message.Body.{Body}
 use Rattle.tp_wire.specs.declared.message.Body.TheVariants.{MSubmit, MPropose, MPayload, MProposeAck, MBump, MConsensus, MConsensusAck, MCommit, MRec, MRecAck, MPromises, MCommitted, MStable, MResult}
 use Rattle.tp_wire.specs.declared.message.Message.{Message}
@@ -47,9 +47,6 @@ abbrev pub partition_of : ActorName → ℕ
 partition_of (Process s) = s.partition.0
 partition_of (Executor s) = s.partition.0
 partition_of (Session id) = 0
-
-abbrev pub is_site_of : Shape → Site → Bool
-is_site_of shape s = is_from 1 shape.partitions s.partition.0 && is_from 1 shape.replicas s.rank.0
 
 abbrev pub is_name_of : Shape → ActorName → Bool
 is_name_of shape (Process s) = is_site_of shape s

@@ -6,10 +6,10 @@ use Rattle.tp_base.specs.declared.names.CommandId.{CommandId}
 use Rattle.tp_base.specs.declared.names.PartitionId.{PartitionId}
 use Rattle.tp_base.specs.declared.names.Site.{Site}
 use Rattle.tp_ops.specs.declared.operation.Answer.{Answer}
-use Rattle.tp_rules.specs.Addresses.{is_site_of}
 use Rattle.tp_rules.specs.Outcome.{Commit, commits, executions, line, share, precedes, reply_to, command_of, ops_of, sequential_answers, answers_on, key_in, those_before}
 use Rattle.tp_rules.specs.declared.event.Entry.{Entry}
 use Rattle.tp_script.specs.declared.script.Script.{Script}
+use Rattle.tp_topology.specs.Shape.{is_site_of}
 use Rattle.tp_wire.specs.declared.message.Body.TheVariants.{MResult}
 use Rattle.tp_wire.specs.declared.message.Message.{Message}
 

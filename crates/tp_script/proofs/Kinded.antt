@@ -16,8 +16,7 @@ use Rattle.tp_base.specs.declared.names.CommandId.{CommandId}
 use Rattle.tp_base.specs.declared.names.Site.{Site}
 use Rattle.tp_ops.specs.Limits.{IsText, IsValue}
 use Rattle.tp_ops.specs.declared.command.Command.{Command}
-use Rattle.tp_script.specs.Accepted.{IsSiteOf}
-use Rattle.tp_script.specs.Kinds.{IsActorIn, IsSaid, Kind, Said, actor, bytes_at, dotted_at, id, is_site, is_there, key, kinds, literal, most, number, numbers_at, read_actor, read_id, read_session, read_site, read_word, site, value, value_at, value_word, word_of}
+use Rattle.tp_script.specs.Kinds.{IsActorIn, IsSaid, Kind, Said, actor, bytes_at, dotted_at, id, is_there, key, kinds, literal, most, number, numbers_at, read_actor, read_id, read_session, read_site, read_word, site, value, value_at, value_word, word_of}
 use Rattle.tp_script.specs.declared.fault.ScriptCause.{ScriptCause}
 use Rattle.tp_script.specs.declared.fault.ScriptCause.TheVariants.{Word, Number, Shape, Key, Value, Session}
 use Rattle.tp_text.specs.Hexadecimal.{hex_of}
@@ -33,7 +32,7 @@ use Rattle.tp_text.proofs.Plain.{bytes_same, decimal_plain, dotted_plain, hex_pl
 use Rattle.tp_text.proofs.Ranged.{number_read, number_written}
 use Rattle.tp_text.proofs.Rowed.{AreKinds}
 use Rattle.tp_text.proofs.Stepped.{bind_ok, chosen, else_ok, need_ok, ok_is}
-use Rattle.tp_topology.specs.Shape.{IsShape, Shape as StoreShape}
+use Rattle.tp_topology.specs.Shape.{IsShape, Shape as StoreShape, IsSiteOf, is_site_of}
 
 -- the kinds that have the laws
 abbrev pub IsKind : Kind → Type 0
@@ -120,9 +119,9 @@ dotted_written m n first second =
 site_read : (shape : StoreShape) (word : List ℕ) (s : Site) → read_site shape word ≡ Ok s → (word ≡ site_word s) × IsSiteOf shape s
 unfolding read_site
 site_read shape word s e =
-    let a = bind_ok (dotted_at word) (λ pair. need (is_site shape pair) Shape >>= λ _. Ok (site_at pair)) s e in
+    let a = bind_ok (dotted_at word) (λ pair. need (is_site_of shape (site_at pair)) Shape >>= λ _. Ok (site_at pair)) s e in
     let w = dotted_read word a.0 a.1 in
-    let t = need_ok (is_site shape a.0) Shape (Ok (site_at a.0)) s a.2 in
+    let t = need_ok (is_site_of shape (site_at a.0)) Shape (Ok (site_at a.0)) s a.2 in
     let parts = and_parts (is_from 1 shape.partitions a.0.0) (is_from 1 shape.replicas a.0.1) t.0 in
     subst (λ (x : Site). (word ≡ site_word x) × IsSiteOf shape x) (ok_is ScriptCause (site_at a.0) s t.1) (w.0, (in_range 1 shape.partitions a.0.0 parts.0, in_range 1 shape.replicas a.0.1 parts.1))
 

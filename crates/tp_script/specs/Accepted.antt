@@ -7,14 +7,13 @@ use Rattle.tp_base.specs.Names.{same_id, same_site, same_name}
 use Rattle.tp_base.specs.declared.names.ActorName.{ActorName}
 use Rattle.tp_base.specs.declared.names.ActorName.TheVariants.{Process, Executor, Session}
 use Rattle.tp_base.specs.declared.names.Rank.{Rank}
-use Rattle.tp_base.specs.declared.names.Site.{Site}
 use Rattle.tp_ops.specs.Limits.{IsCommand}
 use Rattle.tp_ops.specs.declared.command.Command.{Command}
 use Rattle.tp_script.specs.declared.script.PlanLine.{PlanLine}
 use Rattle.tp_script.specs.declared.script.PlanLine.TheVariants.{Crash, Recover, Lose, Repeat, RepeatAll}
 use Rattle.tp_script.specs.declared.script.Script.{Script}
 use Rattle.tp_topology.specs.Counting.{up_to}
-use Rattle.tp_topology.specs.Shape.{Shape, IsShape}
+use Rattle.tp_topology.specs.Shape.{IsShape, IsSiteOf}
 
 -- the commands of a session, in order
 abbrev pub commands_by : ℕ → List Command → List Command
@@ -32,9 +31,6 @@ IsCommandOf homes c = IsCommand c × IsFrom 1 (length homes) c.id.session.0 × I
 -- the n-th command of a session has number n
 abbrev pub AreNumbered : List Command → ℕ → Type 0
 AreNumbered commands s = map (λ c. c.id.number) (commands_by s commands) ≡ up_to (length (commands_by s commands))
-
-abbrev pub IsSiteOf : Shape → Site → Type 0
-IsSiteOf shape site = IsFrom 1 shape.partitions site.partition.0 × IsFrom 1 shape.replicas site.rank.0
 
 abbrev pub IsActorOf : Script → ActorName → Type 0
 IsActorOf script (Process site) = IsSiteOf script.topology site

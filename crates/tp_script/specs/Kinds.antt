@@ -13,7 +13,6 @@ use Rattle.tp_base.specs.declared.names.CommandId.{CommandId}
 use Rattle.tp_base.specs.declared.names.Site.{Site}
 use Rattle.tp_ops.specs.Limits.{IsKey, IsValue}
 use Rattle.tp_ops.specs.declared.command.Command.{Command}
-use Rattle.tp_script.specs.Accepted.{IsSiteOf}
 use Rattle.tp_script.specs.declared.fault.ScriptCause.{ScriptCause}
 use Rattle.tp_script.specs.declared.fault.ScriptCause.TheVariants.{Word, Number, Shape, Key, Value, Session}
 use Rattle.tp_text.specs.Hexadecimal.{hex_of}
@@ -22,7 +21,7 @@ use Rattle.tp_text.specs.Names.{actor_word, id_at, id_word, site_at, site_word}
 use Rattle.tp_text.specs.Numbers.{number_at, number_of}
 use Rattle.tp_text.specs.Rows as rows
 use Rattle.tp_text.specs.Steps.{◌>>=◌, ◌>>◌, else_cause, need}
-use Rattle.tp_topology.specs.Shape.{Shape as StoreShape}
+use Rattle.tp_topology.specs.Shape.{Shape as StoreShape, IsSiteOf, is_site_of}
 
 pub data Kind : Type 0 where
   number : ℕ → ℕ → Kind  -- a number from the first to the second
@@ -109,13 +108,10 @@ numbers_at (Some pair) = do
 unfoldable pub dotted_at : List ℕ → Result (ℕ × ℕ) ScriptCause
 dotted_at word = numbers_at (halves 46 word)
 
-abbrev pub is_site : StoreShape → ℕ × ℕ → Bool
-is_site shape pair = is_from 1 shape.partitions pair.0 && is_from 1 shape.replicas pair.1
-
 unfoldable pub read_site : StoreShape → List ℕ → Result Site ScriptCause
 read_site shape word = do
   pair ← dotted_at word
-  need (is_site shape pair) Shape
+  need (is_site_of shape (site_at pair)) Shape
   Ok (site_at pair)
 
 abbrev pub is_there : List Command → CommandId → Bool

@@ -1,23 +1,12 @@
 ghost use Rattle.std.specs.Prelude.{◌≡◌, ◌≤◌, ◌&&◌, Some, IfOk, is_none, take};
 ghost use Rattle.tp_base.specs.Tables.{kept_at};
 ghost use Rattle.tp_ops.specs.Parts.{is_accessed};
-ghost use Rattle.tp_rules.specs.Addresses.{is_site_of};
 ghost use Rattle.tp_rules.specs.Session.{is_awaited, is_whole, merged_reply};
 
 use std::alloc::Global;
-use tp_base::{NoMemory, PartitionId, Site};
+use tp_base::{NoMemory, PartitionId};
 use tp_ops::{Answers, Command, Parts, accesses, count_on, merge};
 use tp_topology::Topology;
-
-/// Whether a site is of the store's shape.
-pub fn is_site_of(topology: &Topology, site: Site) -> bool
-    ensures { result ≡ is_site_of topology.now site }
-{
-    1 <= site.partition.0
-        && site.partition.0 <= topology.partitions()
-        && 1 <= site.rank.0
-        && site.rank.0 <= topology.replicas()
-}
 
 /// Whether a command accesses a partition whose answers are not kept.
 fn lacks(partitions: u8, parts: &Parts, command: &Command, p: PartitionId) -> bool

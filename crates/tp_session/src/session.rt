@@ -4,7 +4,7 @@ ghost use Rattle.tp_base.specs.Tables.{kept_at, nth, with_nth};
 ghost use Rattle.tp_rules.specs.Session.{SessionState, is_awaited, is_whole, on_message, on_result, on_submit, submissions, reply, state_after};
 ghost use Rattle.tp_wire.specs.Ranges.{IsInRange};
 
-use crate::answered::{is_awaited, is_site_of, is_whole, reply_of};
+use crate::answered::{is_awaited, is_whole, reply_of};
 use crate::submissions::submissions;
 use std::alloc::Global;
 use tp_base::{ActorName, CommandId, Duplicate, NoMemory, PartitionId, Rank, Sequence, SessionId};
@@ -188,7 +188,7 @@ impl Session {
         let ActorName::Executor(from) = message.from else {
             return Ok(());
         };
-        if !is_site_of(&self.topology, from) {
+        if !self.topology.has_site(from) {
             return Ok(());
         }
         let Body::MResult {
@@ -199,7 +199,7 @@ impl Session {
         else {
             return Ok(());
         };
-        if 1 <= partition.0 && partition.0 <= self.topology.partitions() {
+        if self.topology.has_partition(*partition) {
             return self.receive(*id, *partition, answers);
         }
         Ok(())

@@ -12,7 +12,6 @@ use Rattle.tp_base.specs.Limits.{is_from}
 use Rattle.tp_base.specs.declared.names.ActorName.TheVariants.{Process, Executor}
 use Rattle.tp_base.specs.declared.names.Rank.{Rank}
 use Rattle.tp_rules.specs.Acts.{Did, Identity}
-use Rattle.tp_rules.specs.Addresses.{is_site_of}
 use Rattle.tp_rules.specs.Plan.{asked_of, by_time, due, if_due, plan_of}
 use Rattle.tp_rules.specs.Rules.{enabled, outputs_of}
 use Rattle.tp_rules.specs.Runs.{FollowsLine, IsRun}
@@ -33,7 +32,7 @@ use Rattle.tp_shared.specs.Rule.{KeepsListOf, Made}
 use Rattle.tp_shared.specs.Steps.{keeping}
 use Rattle.tp_shared.specs.declared.view.Start.{Start}
 use Rattle.tp_shared_tests.specs.Small.{HasCrashed, IsFresh, IsNew, IsSmall, session_name, site}
-use Rattle.tp_topology.specs.Shape.{Shape}
+use Rattle.tp_topology.specs.Shape.{Shape, is_site_of}
 use Rattle.tp_wire.specs.declared.message.Message.{Message}
 
 pub submit_may : (script : Script) (n number : ℕ) (outputs : List Message) (session : Session) → IsSmall script → 1 ≤ n → n ≤ 2 → IsNew script n session

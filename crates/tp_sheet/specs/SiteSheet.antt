@@ -21,13 +21,6 @@ pub record SiteSheet : Type 0 where
   pub site : Site
   pub sheet : Sheet
 
--- a site of the shape
-pub record IsSiteOf (shape : Shape) (site : Site) : Type 0 where
-  pub some_partition : 1 ≤ site.partition.0
-  pub few_partitions : site.partition.0 ≤ shape.partitions
-  pub some_rank : 1 ≤ site.rank.0
-  pub few_ranks : site.rank.0 ≤ shape.replicas
-
 abbrev pub blank_at : Shape → Site → SiteSheet
 blank_at shape site = record { shape = shape; site = site; sheet = blank shape }
 

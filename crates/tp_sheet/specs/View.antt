@@ -4,8 +4,9 @@ use Rattle.std.specs.Option.{option_map}
 use Rattle.tp_base.specs.Lists.{Each}
 use Rattle.tp_choice.specs.declared.answer.RecoveryAnswer.{RecoveryAnswer}
 use Rattle.tp_quorum.specs.Choice.{present}
-use Rattle.tp_sheet.specs.SiteSheet.{SiteSheet, IsSiteOf}
+use Rattle.tp_sheet.specs.SiteSheet.{SiteSheet}
 use Rattle.tp_sheet.specs.declared.sheet.Sheet.TheInside.{Inside}
+use Rattle.tp_topology.specs.Shape.{IsSiteOf}
 
 -- of the tables as many places as there are partitions or replicas
 abbrev pub view_of : Inside → SiteSheet

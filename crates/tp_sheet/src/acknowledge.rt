@@ -23,7 +23,7 @@ impl Sheet {
         ensures choice { result ≡ choice_after_ack rank.0 stamp.0 self.old }
         ensures taken { self.new ≡ with_acknowledgement rank.0 stamp.0 self.old }
     {
-        if !self.has_rank(rank) || !self.count_proposal(rank, stamp) {
+        if !self.topology.has_rank(rank) || !self.count_proposal(rank, stamp) {
             return None;
         }
         let choice = self.choice();

@@ -5,7 +5,7 @@ ghost use Rattle.tp_rules.specs.Addresses.{accessed};
 ghost use Rattle.tp_rules.specs.Sheet.{greatest_known as greatest_of_known, stamp_of};
 ghost use Rattle.tp_sheet.specs.SiteSheet.{final_after_learning, final_of, with_known};
 
-use crate::sheet::{Sheet, is_partition};
+use crate::sheet::Sheet;
 use tp_base::{PartitionId, Stamp};
 use tp_ops::{Command, accesses};
 use tp_quorum::Known;
@@ -39,7 +39,7 @@ impl Sheet {
         ensures new { result ≡ is_none (stamp_of self.old.sheet partition.0) }
         ensures known { self.new ≡ with_known partition.0 stamp.0 self.old }
     {
-        if !is_partition(&self.topology, partition) {
+        if !self.topology.has_partition(partition) {
             return true;
         }
         self.known.put(partition, stamp)

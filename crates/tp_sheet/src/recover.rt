@@ -46,7 +46,7 @@ impl Sheet {
         ensures choice { option_map (λ t. t.0) result ≡ choice_after_answer answer ballot self.old }
         ensures taken { self.new ≡ with_answer_of answer ballot self.old }
     {
-        if !(self.has_rank(answer.rank) && self.can_answer(answer.rank, ballot)) {
+        if !(self.topology.has_rank(answer.rank) && self.can_answer(answer.rank, ballot)) {
             return None;
         }
         self.add_answer(answer);
@@ -162,7 +162,7 @@ impl Sheet {
         match &self.command {
             None => None,
             Some(command) => {
-                if self.has_rank(command.home) {
+                if self.topology.has_rank(command.home) {
                     Some(command.home)
                 } else {
                     None

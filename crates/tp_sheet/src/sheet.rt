@@ -1,8 +1,8 @@
 ghost use Rattle.std.specs.Prelude.{◌≡◌, ◌≤◌, ◌&&◌, is_some};
 ghost use Rattle.std.specs.Option.{option_copied, option_map};
-ghost use Rattle.tp_base.specs.Limits.{is_from};
 ghost use Rattle.tp_rules.specs.Sheet.{is_fresh, with_command, putting, stamp_of, with_proposal};
-ghost use Rattle.tp_sheet.specs.SiteSheet.{IsSiteOf, blank_at, proposal_of, with_sheet};
+ghost use Rattle.tp_sheet.specs.SiteSheet.{blank_at, proposal_of, with_sheet};
+ghost use Rattle.tp_topology.specs.Shape.{IsSiteOf};
 
 use std::marker::Model;
 use tp_base::{Made, PartitionId, Rank, Site, Stamp};
@@ -85,7 +85,7 @@ impl Sheet {
     pub fn stamp(&self, partition: PartitionId) -> Option<Stamp>
         ensures { option_map (λ t. t.0) result ≡ stamp_of self.now.sheet partition.0 }
     {
-        if !is_partition(&self.topology, partition) {
+        if !self.topology.has_partition(partition) {
             return None;
         }
         self.known.get(partition)
@@ -124,12 +124,6 @@ impl Sheet {
         self.site.rank
     }
 
-    pub(crate) fn has_rank(&self, rank: Rank) -> bool
-        ensures { result ≡ is_from 1 self.now.shape.replicas rank.0 }
-    {
-        1 <= rank.0 && rank.0 <= self.topology.replicas()
-    }
-
     pub(crate) fn knows(&self, partition: PartitionId) -> bool
         ensures { result ≡ is_some (stamp_of self.now.sheet partition.0) }
     {
@@ -142,11 +136,4 @@ impl Sheet {
     {
         self.proposer.put(ballot, stamp);
     }
-}
-
-/// Whether a partition is one of the shape.
-pub(crate) fn is_partition(topology: &Topology, partition: PartitionId) -> bool
-    ensures { result ≡ is_from 1 topology.now.partitions partition.0 }
-{
-    1 <= partition.0 && partition.0 <= topology.partitions()
 }

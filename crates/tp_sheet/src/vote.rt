@@ -23,7 +23,7 @@ impl Sheet {
         ensures decision { option_map (λ t. t.0) result ≡ decision_after_vote rank.0 ballot self.old }
         ensures taken { self.new ≡ with_vote_of rank.0 ballot self.old }
     {
-        if !self.has_rank(rank) || self.knows(self.site.partition) {
+        if !self.topology.has_rank(rank) || self.knows(self.site.partition) {
             return None;
         }
         self.count_vote(rank, ballot)

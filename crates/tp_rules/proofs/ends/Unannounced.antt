@@ -11,7 +11,7 @@ use Rattle.tp_base.specs.declared.names.ActorName.{ActorName}
 use Rattle.tp_base.specs.declared.names.ActorName.TheVariants.{Process}
 use Rattle.tp_base.specs.declared.names.Site.{Site}
 use Rattle.tp_rules.specs.Acts.{Act, Took, Did}
-use Rattle.tp_rules.specs.Addresses.{site, is_name_of, is_body_at, is_site_of}
+use Rattle.tp_rules.specs.Addresses.{site, is_name_of, is_body_at}
 use Rattle.tp_rules.specs.Process as process
 use Rattle.tp_rules.specs.Journal.{act_of, acts, is_known, ranks_of}
 use Rattle.tp_rules.specs.Left.{place_of, has_untold, unannounced}
@@ -24,7 +24,7 @@ use Rattle.tp_rules.specs.declared.event.Inner.TheVariants.{Submit, Recover, Ann
 use Rattle.tp_script.specs.declared.script.Script.{Script}
 use Rattle.tp_topology.specs.Ballots.{next_ballot}
 use Rattle.tp_topology.specs.Counting.{up_to}
-use Rattle.tp_topology.specs.Shape.{Shape, IsShape}
+use Rattle.tp_topology.specs.Shape.{Shape, IsShape, is_site_of}
 use Rattle.tp_wire.specs.declared.message.Body.{Body}
 use Rattle.tp_wire.specs.declared.message.Body.TheVariants.{MSubmit, MPropose, MPayload, MProposeAck, MBump, MConsensus, MConsensusAck, MCommit, MRec, MRecAck, MPromises, MCommitted, MStable, MResult}
 use Rattle.tp_rules.proofs.ActsMore.{acts_step, acts_then}

@@ -13,7 +13,7 @@ use Rattle.tp_base.specs.declared.names.CommandId.{CommandId}
 use Rattle.tp_base.specs.declared.names.Site.{Site}
 use Rattle.tp_ops.specs.declared.command.Command.{Command}
 use Rattle.tp_rules.specs.Acts.{Act, Took, Did}
-use Rattle.tp_rules.specs.Addresses.{others_accessed, rank_of, partition_of, is_name_of, is_body_at, is_site_of}
+use Rattle.tp_rules.specs.Addresses.{others_accessed, rank_of, partition_of, is_name_of, is_body_at}
 use Rattle.tp_rules.specs.Executor as executor
 use Rattle.tp_rules.specs.Journal.{act_of, acts, is_known}
 use Rattle.tp_rules.specs.Left.{total, missing_at, undeclared, unexecuted}
@@ -23,7 +23,7 @@ use Rattle.tp_rules.specs.declared.event.Entry.{Entry}
 use Rattle.tp_rules.specs.declared.event.Event.TheVariants.{Inner as OfItself}
 use Rattle.tp_rules.specs.declared.event.Inner.TheVariants.{Submit, Recover, Announce, Declare, Execute, Crash}
 use Rattle.tp_script.specs.declared.script.Script.{Script}
-use Rattle.tp_topology.specs.Shape.{Shape}
+use Rattle.tp_topology.specs.Shape.{Shape, is_site_of}
 use Rattle.tp_topology.specs.Stability.{is_stable}
 use Rattle.tp_wire.specs.declared.message.Body.{Body}
 use Rattle.tp_wire.specs.declared.message.Body.TheVariants.{MSubmit, MPropose, MPayload, MProposeAck, MBump, MConsensus, MConsensusAck, MCommit, MRec, MRecAck, MPromises, MCommitted, MStable, MResult}

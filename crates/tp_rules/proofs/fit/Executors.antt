@@ -23,11 +23,12 @@ use Rattle.tp_ops.specs.declared.operation.Op.TheVariants.{Get, Put, Del, Cas}
 use Rattle.tp_rules.proofs.fit.Messages.{IsBodyOf, IsCommandHere, IsExecutorOf, IsFit, IsFitAct, command_in_range, each_executor, each_other_accessed, site_in_range, site_is}
 use Rattle.tp_rules.proofs.lists.Selections.{IfAny, each_filter, each_image, each_spread, filter_shorter, filter_some}
 use Rattle.tp_rules.specs.Acts.{Act, Took, Did}
-use Rattle.tp_rules.specs.Addresses.{executors_of, is_body_at, is_name_of, is_site_of, message, others_accessed, partition_of, rank_of}
+use Rattle.tp_rules.specs.Addresses.{executors_of, is_body_at, is_name_of, message, others_accessed, partition_of, rank_of}
 use Rattle.tp_rules.specs.Executor.{Committed, ExecutorState, Step, committed_ids, declarations, declare_least, execute_least, executed, least, lesser, on_body, on_committed, on_promises, on_stable, react, state_after, waiting}
 use Rattle.tp_rules.specs.declared.event.Inner.TheVariants.{Announce, Declare, Execute}
 use Rattle.tp_script.specs.Accepted.{IsAccepted, IsCommandOf}
 use Rattle.tp_script.specs.declared.script.Script.{Script}
+use Rattle.tp_topology.specs.Shape.{is_site_of}
 use Rattle.tp_wire.specs.declared.message.Body.{Body}
 use Rattle.tp_wire.specs.declared.message.Body.TheVariants.{MPromises, MCommitted, MStable}
 

@@ -16,12 +16,12 @@ use Rattle.tp_ops.specs.declared.command.Command.{Command}
 use Rattle.tp_rules.proofs.sent.EachSent.{TookOnly}
 use Rattle.tp_rules.proofs.lists.Selections.{each_filter, each_image, each_up_to}
 use Rattle.tp_rules.specs.Acts.{Act}
-use Rattle.tp_rules.specs.Addresses.{accessed, executors_of, is_name_of, is_site_of, others_accessed, processes_of, site}
+use Rattle.tp_rules.specs.Addresses.{accessed, executors_of, is_name_of, others_accessed, processes_of, site}
 use Rattle.tp_rules.specs.Journal.{is_known}
 use Rattle.tp_script.specs.Accepted.{IsAccepted, IsCommandOf}
 use Rattle.tp_script.specs.declared.script.Script.{Script}
 use Rattle.tp_topology.specs.Counting.{up_to}
-use Rattle.tp_topology.specs.Shape.{Shape, IsShape}
+use Rattle.tp_topology.specs.Shape.{Shape, IsShape, is_site_of}
 use Rattle.tp_wire.specs.Ranges.{IsExecutor, IsInRange, IsProcess}
 use Rattle.tp_wire.specs.declared.message.Body.{Body}
 use Rattle.tp_wire.specs.declared.message.Body.TheVariants.{MSubmit, MPropose, MPayload, MProposeAck, MBump, MConsensus, MConsensusAck, MCommit, MRec, MRecAck, MPromises, MCommitted, MStable, MResult}

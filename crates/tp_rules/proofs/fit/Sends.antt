@@ -21,12 +21,13 @@ use Rattle.tp_rules.proofs.fit.Messages.{IsCommandHere, IsExecutorOf, IsFit, IsP
 use Rattle.tp_rules.proofs.fit.Processes.{IsProcessSound, ids_of}
 use Rattle.tp_rules.proofs.fit.Promises.{untold_attached}
 use Rattle.tp_rules.proofs.lists.Selections.{IfAny, each_filter, each_image, each_spread, each_up_to, filter_shorter}
-use Rattle.tp_rules.specs.Addresses.{accessed, executors_of, is_site_of, message, others_accessed, processes_of, site}
+use Rattle.tp_rules.specs.Addresses.{accessed, executors_of, message, others_accessed, processes_of, site}
 use Rattle.tp_rules.specs.Process.{ProcessState, announced, asked, bumps, commit_messages, proposals, put_to_vote, commit_reply, untold}
 use Rattle.tp_rules.specs.Sheet.{QuorumRule}
 use Rattle.tp_script.specs.Accepted.{IsAccepted}
 use Rattle.tp_script.specs.declared.script.Script.{Script}
 use Rattle.tp_topology.specs.Counting.{up_to}
+use Rattle.tp_topology.specs.Shape.{is_site_of}
 use Rattle.tp_wire.specs.Ranges.{IsNumber}
 use Rattle.tp_wire.specs.declared.message.Body.{Body}
 use Rattle.tp_wire.specs.declared.message.Body.TheVariants.{MPropose, MPayload, MBump, MConsensus, MCommit, MRec, MPromises}
