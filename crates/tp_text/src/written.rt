@@ -5,6 +5,7 @@ ghost use Rattle.tp_text.specs.Framing.{end_words, header_words};
 ghost use Rattle.tp_text.specs.Names.{actor_word, id_word, site_word};
 ghost use Rattle.tp_text.specs.Writing.{ended, with_word, with_words};
 
+use crate::names::{put_actor, put_id, put_site};
 use itoa::Buffer;
 use std::alloc::Global;
 use std::marker::Model;
@@ -24,13 +25,6 @@ impl Model for Text {
     ghost Value = { Written };
 
     ghost view = { λ text. record { bytes = text.out; begun = text.begun } };
-}
-
-fn put_number(word: &mut Put, n: u64) -> Result<(), NoMemory>
-    ensures { OnOk result (word.new ≡ word.old ++ decimal n) }
-{
-    let mut buffer = Buffer::new();
-    word.bytes(buffer.format(n).as_bytes())
 }
 
 impl Text {
@@ -63,56 +57,28 @@ impl Text {
         self.word(buffer.format(n).as_bytes())
     }
 
-    /// Writes a word of two decimal numbers with a point between them, behind a mark.
-    pub fn dotted(&mut self, mark: &[u8], first: u64, second: u64) -> Result<(), NoMemory>
-        ensures { OnOk result (self.new ≡ with_word self.old (mark.now ++ (decimal first ++ 46 ∷ decimal second))) }
-    {
-        let mut word = Put::new(self.alloc);
-        word.bytes(mark)?;
-        put_number(&mut word, first)?;
-        word.byte(b'.')?;
-        put_number(&mut word, second)?;
-        self.word(word.finish().as_slice())
-    }
-
-    /// Writes a word of a decimal number behind a mark.
-    pub fn marked(&mut self, mark: &[u8], n: u64) -> Result<(), NoMemory>
-        ensures { OnOk result (self.new ≡ with_word self.old (mark.now ++ decimal n)) }
-    {
-        let mut word = Put::new(self.alloc);
-        word.bytes(mark)?;
-        put_number(&mut word, n)?;
-        self.word(word.finish().as_slice())
-    }
-
-    /// Writes a site's word, behind a mark.
-    fn marked_site(&mut self, mark: &[u8], site: Site) -> Result<(), NoMemory>
-        ensures { OnOk result (self.new ≡ with_word self.old (mark.now ++ site_word site)) }
-    {
-        let partition = u64::from(site.partition.0);
-        self.dotted(mark, partition, u64::from(site.rank.0))
-    }
-
     pub fn site(&mut self, site: Site) -> Result<(), NoMemory>
         ensures { OnOk result (self.new ≡ with_word self.old (site_word site)) }
     {
-        self.marked_site(b"", site)
+        let mut word = Put::new(self.alloc);
+        put_site(&mut word, site)?;
+        self.word(word.finish().as_slice())
     }
 
     pub fn id(&mut self, id: CommandId) -> Result<(), NoMemory>
         ensures { OnOk result (self.new ≡ with_word self.old (id_word id)) }
     {
-        self.dotted(b"", u64::from(id.session.0), u64::from(id.number))
+        let mut word = Put::new(self.alloc);
+        put_id(&mut word, id)?;
+        self.word(word.finish().as_slice())
     }
 
     pub fn actor(&mut self, actor: ActorName) -> Result<(), NoMemory>
         ensures { OnOk result (self.new ≡ with_word self.old (actor_word actor)) }
     {
-        match actor {
-            ActorName::Process(site) => self.marked_site(b"p", site),
-            ActorName::Executor(site) => self.marked_site(b"e", site),
-            ActorName::Session(session) => self.marked(b"s", u64::from(session.0)),
-        }
+        let mut word = Put::new(self.alloc);
+        put_actor(&mut word, actor)?;
+        self.word(word.finish().as_slice())
     }
 
     /// Writes the first line of a text of this name.
