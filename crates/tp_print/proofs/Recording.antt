@@ -13,11 +13,12 @@ use Rattle.tp_base.specs.declared.names.Site.{Site}
 use Rattle.tp_print.proofs.Commits.{first_stamp_entry, sent_of_others, sent_of_process}
 use Rattle.tp_print.proofs.KeptFirst.{option_or_none}
 use Rattle.tp_print.specs.Recorded.{AreMore, IsRecorded, commits_at, commits_sent, first_stamp, recorded_words}
-use Rattle.tp_print.specs.Report.{crashed_words, executed_words, order_line, site_word, stamp_at, stamped_word, text_line}
+use Rattle.tp_print.specs.Report.{crashed_words, executed_words, order_line, stamp_at, stamped_word, text_line}
 use Rattle.tp_print.specs.declared.site.SiteRecord.{SiteRecord}
 use Rattle.tp_rules.specs.Journal.{is_crash, has_crashed}
 use Rattle.tp_rules.specs.Outcome.{Commit, at_end, executed_by, executions, stamp_in}
 use Rattle.tp_rules.specs.declared.event.Entry.{Entry}
+use Rattle.tp_text.specs.Names.{site_word}
 
 -- a name is that of one actor
 process_only : (s : Site) (a : ActorName) → same_name a (Process s) ≡ true → same_name a (Executor s) ≡ false

@@ -9,13 +9,14 @@ use Rattle.tp_base.specs.declared.names.CommandId.{CommandId}
 use Rattle.tp_base.specs.declared.names.Site.{Site}
 use Rattle.tp_print.proofs.Numbered.{filter_flat, flat_map_flat, length-filter_map, length-flat_map-same}
 use Rattle.tp_print.specs.Replies.{lines_of, numbers_of, open_of}
-use Rattle.tp_print.specs.Report.{id_of, id_word, ids_of, open_count, order_lines, reply_line, reply_lines, report_text, spaced, text_line}
+use Rattle.tp_print.specs.Report.{id_of, ids_of, open_count, order_lines, reply_line, reply_lines, report_text, spaced, text_line}
 use Rattle.tp_rules.specs.Addresses.{site}
 use Rattle.tp_rules.specs.Journal.{ranks_of}
 use Rattle.tp_rules.specs.Outcome.{line, reply_to}
 use Rattle.tp_rules.specs.Pending.{sites_of}
 use Rattle.tp_rules.specs.declared.event.Entry.{Entry}
 use Rattle.tp_script.specs.declared.script.Script.{Script}
+use Rattle.tp_text.specs.Names.{id_word}
 use Rattle.tp_topology.specs.Counting.{up_to}
 
 pub reply_lines_are : (script : Script) (older : List Entry)

@@ -13,6 +13,7 @@ use Rattle.tp_rules.specs.Outcome.{commits, executions, line, reply_to, stamp_in
 use Rattle.tp_rules.specs.Pending.{sites_of}
 use Rattle.tp_rules.specs.declared.event.Entry.{Entry}
 use Rattle.tp_script.specs.declared.script.Script.{Script}
+use Rattle.tp_text.specs.Names.{id_word, site_word}
 use Rattle.tp_topology.specs.Counting.{up_to}
 
 -- a word behind others: ` word`
@@ -22,14 +23,6 @@ spaced word = codes " " ++ word
 -- a line: `first word word ..`
 abbrev pub text_line : List ℕ → List (List ℕ) → List ℕ
 text_line first words = first ++ flat_map spaced words ++ 10 ∷ []
-
--- `session.number`
-unfoldable pub id_word : CommandId → List ℕ
-id_word id = decimal id.session.0 ++ codes "." ++ decimal id.number
-
--- `partition.rank`
-unfoldable pub site_word : Site → List ℕ
-site_word s = decimal s.partition.0 ++ codes "." ++ decimal s.rank.0
 
 -- `session.number@stamp`
 abbrev pub stamped_word : CommandId → ℕ → List ℕ

@@ -3,11 +3,12 @@ use Rattle.std.specs.Fmt.{decimal}
 use Rattle.std.specs.List.{flat_map}
 use Rattle.std.specs.Prelude.{ℕ, List, [], ◌∷◌, ◌++◌, is_some, codes, filter, length, reverse}
 use Rattle.tp_base.specs.declared.names.Site.{Site}
-use Rattle.tp_print.specs.Report.{all_ids, open_count, site_word, text_line}
+use Rattle.tp_print.specs.Report.{all_ids, open_count, text_line}
 use Rattle.tp_rules.specs.Outcome.{executions, reply_to}
 use Rattle.tp_rules.specs.Pending.{sites_of}
 use Rattle.tp_rules.specs.declared.event.Entry.{Entry}
 use Rattle.tp_script.specs.declared.script.Script.{Script}
+use Rattle.tp_text.specs.Names.{site_word}
 
 -- `first number`
 abbrev pub count_line : List ℕ → ℕ → List ℕ

@@ -2,16 +2,17 @@ ghost use Rattle.std.specs.Prelude.{◌≡◌, ◌++◌, [], ◌∷◌, codes, l
 ghost use Rattle.std.specs.Fmt.{decimal};
 ghost use Rattle.std.specs.List.{flat_map};
 ghost use Rattle.tp_print.specs.Recorded.{AreRecorded};
-ghost use Rattle.tp_print.specs.Report.{site_word, text_line};
+ghost use Rattle.tp_print.specs.Report.{text_line};
 ghost use Rattle.tp_print.specs.Summary.{executed_line};
 ghost use Rattle.tp_rules.specs.Addresses.{site};
 ghost use Rattle.tp_rules.specs.Outcome.{executions};
 ghost use Rattle.tp_rules.specs.declared.event.Entry.{Entry};
+ghost use Rattle.tp_text.specs.Names.{site_word};
 ghost use Rattle.tp_topology.specs.Counting.{up_to};
 
 use crate::site::SiteRecord;
 use crate::sites::Sites;
-use crate::words::{put_count, put_site};
+use crate::words::{put_count, put_spaced_site};
 use std::alloc::Global;
 use tp_base::{NoMemory, PartitionId, Put, Rank, Site};
 use tp_topology::Topology;
@@ -30,7 +31,7 @@ fn put_site_count(out: &mut Put, site: Site, executed: u64) -> Result<(), NoMemo
         (site_word site ∷ decimal executed ∷ [])) }
 {
     out.bytes(b"executed")?;
-    put_site(out, site)?;
+    put_spaced_site(out, site)?;
     put_count(out, executed)?;
     out.byte(b'\n')
 }

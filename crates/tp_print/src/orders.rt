@@ -2,13 +2,14 @@ ghost use Rattle.std.specs.Prelude.{◌≡◌, ◌++◌, ◌∷◌, codes, map, 
 ghost use Rattle.std.specs.List.{flat_map};
 ghost use Rattle.tp_print.specs.Recorded.{AreRecorded, recorded_words};
 ghost use Rattle.tp_rules.specs.declared.event.Entry.{Entry};
-ghost use Rattle.tp_print.specs.Report.{crashed_words, order_line, site_word, spaced, text_line};
+ghost use Rattle.tp_print.specs.Report.{crashed_words, order_line, spaced, text_line};
 ghost use Rattle.tp_rules.specs.Addresses.{site};
+ghost use Rattle.tp_text.specs.Names.{site_word};
 ghost use Rattle.tp_topology.specs.Counting.{up_to};
 
 use crate::site::SiteRecord;
 use crate::sites::Sites;
-use crate::words::{put_site, put_stamped};
+use crate::words::{put_spaced_site, put_stamped};
 use std::alloc::Global;
 use tp_base::{NoMemory, PartitionId, Put, Rank, Site};
 use tp_topology::Topology;
@@ -37,7 +38,7 @@ fn put_record(out: &mut Put, site: Site, noted: &SiteRecord) -> Result<(), NoMem
         (site_word site ∷ recorded_words noted.now ++ crashed_words noted.now.crashed)) }
 {
     out.bytes(b"order")?;
-    put_site(out, site)?;
+    put_spaced_site(out, site)?;
     put_executed(out, noted)?;
     put_crashed(out, noted.crashed)?;
     out.byte(b'\n')

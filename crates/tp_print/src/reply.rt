@@ -10,7 +10,7 @@ ghost use Rattle.tp_rules.specs.Addresses.{accessed};
 ghost use Rattle.tp_rules.specs.Outcome.{reply_from};
 
 use crate::first_results::FirstResults;
-use crate::words::{put_answer, put_id};
+use crate::words::{put_answer, put_spaced_id};
 use std::alloc::Global;
 use tp_base::{NoMemory, PartitionId, Put, partition_of};
 use tp_ops::{Answer, Command, accesses};
@@ -82,7 +82,7 @@ fn put_whole(
         (Some (merged partitions command.now.ops (answers_in first.now)))) }
 {
     out.bytes(b"reply")?;
-    put_id(out, command.id)?;
+    put_spaced_id(out, command.id)?;
     put_merged(alloc, out, partitions, command, first)?;
     out.byte(b'\n')
 }

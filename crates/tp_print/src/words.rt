@@ -1,38 +1,25 @@
 ghost use Rattle.std.specs.Prelude.{◌≡◌, ◌++◌, OnOk};
 ghost use Rattle.std.specs.Fmt.{decimal};
-ghost use Rattle.tp_print.specs.Report.{answer_word, id_word, site_word, spaced, stamped_word};
+ghost use Rattle.tp_print.specs.Report.{answer_word, spaced, stamped_word};
+ghost use Rattle.tp_text.specs.Names.{id_word, site_word};
 
-use itoa::Buffer;
 use std::alloc::Global;
 use tp_base::{CommandId, NoMemory, Put, Site};
 use tp_ops::Answer;
+use tp_text::{put_id, put_number, put_site};
 
-fn put_number(out: &mut Put, n: u64) -> Result<(), NoMemory>
-    ensures { OnOk result (out.new ≡ out.old ++ decimal n) }
-{
-    let mut buffer = Buffer::new();
-    out.bytes(buffer.format(n).as_bytes())
-}
-
-/// A command's identifier, by its session and number.
-#[tactic(auto, unfolding(crate::specs::Report::id_word))]
-pub fn put_id(out: &mut Put, id: CommandId) -> Result<(), NoMemory>
+pub fn put_spaced_id(out: &mut Put, id: CommandId) -> Result<(), NoMemory>
     ensures { OnOk result (out.new ≡ out.old ++ spaced (id_word id)) }
 {
     out.bytes(b" ")?;
-    put_number(out, u64::from(id.session.0))?;
-    out.bytes(b".")?;
-    put_number(out, u64::from(id.number))
+    put_id(out, id)
 }
 
-#[tactic(auto, unfolding(crate::specs::Report::site_word))]
-pub fn put_site(out: &mut Put, site: Site) -> Result<(), NoMemory>
+pub fn put_spaced_site(out: &mut Put, site: Site) -> Result<(), NoMemory>
     ensures { OnOk result (out.new ≡ out.old ++ spaced (site_word site)) }
 {
     out.bytes(b" ")?;
-    put_number(out, u64::from(site.partition.0))?;
-    out.bytes(b".")?;
-    put_number(out, u64::from(site.rank.0))
+    put_site(out, site)
 }
 
 pub fn put_count(out: &mut Put, n: u64) -> Result<(), NoMemory>
@@ -46,7 +33,7 @@ pub fn put_count(out: &mut Put, n: u64) -> Result<(), NoMemory>
 pub fn put_stamped(out: &mut Put, id: CommandId, stamp: u64) -> Result<(), NoMemory>
     ensures { OnOk result (out.new ≡ out.old ++ spaced (stamped_word id stamp)) }
 {
-    put_id(out, id)?;
+    put_spaced_id(out, id)?;
     out.bytes(b"@")?;
     put_number(out, stamp)
 }

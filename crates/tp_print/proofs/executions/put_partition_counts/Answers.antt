@@ -2,10 +2,11 @@ use Rattle.std.proofs.Common.{◌≡◌, ◌+◌, ◌++◌, [], ◌∷◌, ℕ, 
 use Rattle.std.specs.Fmt.{decimal}
 use Rattle.std.specs.Prelude.{codes}
 use Rattle.tp_print.proofs.Lines.{count_more, count_whole}
-use Rattle.tp_print.specs.Report.{site_word, text_line}
+use Rattle.tp_print.specs.Report.{text_line}
 use Rattle.tp_print.specs.Summary.{executed_line}
 use Rattle.tp_rules.specs.Addresses.{site}
 use Rattle.tp_print.proofs.executions.put_partition_counts.Goals as goal
+use Rattle.tp_text.specs.Names.{site_word}
 
 pub loop-i-preserved : goal.loop-i-preserved
 loop-i-preserved c = λ older h.

@@ -1,7 +1,8 @@
 use Rattle.std.proofs.Common.{◌∙◌}
 use Rattle.tp_print.proofs.Lines.{text_whole, words_of}
-use Rattle.tp_print.specs.Report.{id_word, spaced}
+use Rattle.tp_print.specs.Report.{spaced}
 use Rattle.tp_print.proofs.line.put_ids.Goals as goal
+use Rattle.tp_text.specs.Names.{id_word}
 
 pub returns : goal.returns
 returns c =

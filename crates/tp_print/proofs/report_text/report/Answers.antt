@@ -3,9 +3,10 @@ use Rattle.std.specs.Prelude.{codes, reverse}
 use Rattle.tp_base.specs.declared.names.CommandId.{CommandId}
 use Rattle.tp_print.proofs.Reporting.{report_is, site_lines_are}
 use Rattle.tp_print.specs.Outcomes.{IsOutcome}
-use Rattle.tp_print.specs.Report.{id_word, order_line, text_line}
+use Rattle.tp_print.specs.Report.{order_line, text_line}
 use Rattle.tp_rules.specs.declared.event.Entry.{Entry}
 use Rattle.tp_print.proofs.report_text.report.Goals as goal
+use Rattle.tp_text.specs.Names.{id_word}
 
 pub returns : goal.returns
 returns c =
