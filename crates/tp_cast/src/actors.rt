@@ -40,7 +40,9 @@ fn add_processes(
     actors: &mut Vec<AnyActor>,
 ) -> Result<(), NoMemory>
     requires { IsFrom 1 script.now.topology.partitions partition.0 }
-    ensures { OnOk result ((names : List ActorName) → AreNew script.now names actors.old.items → AreNew script.now (names ++ map (λ s. ActorName.Process s) (ranks_of script.now partition.0)) actors.new.items) }
+    ensures { OnOk result ((names : List ActorName) → AreNew script.now names actors.old.items
+        → AreNew script.now (names ++ map (λ s. ActorName.Process s)
+        (ranks_of script.now partition.0)) actors.new.items) }
 {
     for rank in 1..script.topology.replicas() + 1 {
         let site = Site {
@@ -61,7 +63,9 @@ fn add_executors(
     actors: &mut Vec<AnyActor>,
 ) -> Result<(), NoMemory>
     requires { IsFrom 1 script.now.topology.partitions partition.0 }
-    ensures { OnOk result ((names : List ActorName) → AreNew script.now names actors.old.items → AreNew script.now (names ++ map (λ s. ActorName.Executor s) (ranks_of script.now partition.0)) actors.new.items) }
+    ensures { OnOk result ((names : List ActorName) → AreNew script.now names actors.old.items
+        → AreNew script.now (names ++ map (λ s. ActorName.Executor s)
+        (ranks_of script.now partition.0)) actors.new.items) }
 {
     for rank in 1..script.topology.replicas() + 1 {
         let site = Site {

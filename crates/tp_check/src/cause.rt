@@ -35,7 +35,8 @@ pub(crate) fn cause_of<A: Actor>(
     requires cast { AllStand A.identity_of A.is_spent A.stands script.now actors.old earlier.now }
     ensures cause { IfOk result (λ cause. IfSome cause (IsCause script.now (reverse earlier.now) entry.now)) }
     ensures legal { IfOk result (λ cause. cause ≡ None → IsLegal script.now (reverse earlier.now) entry.now) }
-    ensures cast { IfOk result (λ cause. cause ≡ None → AllStand A.identity_of A.is_spent A.stands script.now actors.new (earlier.now ++ entry.now ∷ [])) }
+    ensures cast { IfOk result (λ cause. cause ≡ None
+        → AllStand A.identity_of A.is_spent A.stands script.now actors.new (earlier.now ++ entry.now ∷ [])) }
 {
     if let Some(cause) = step_flaw(script, earlier, ledger, actors, entry) {
         return Ok(Some(cause));
@@ -134,7 +135,8 @@ fn is_to(message: &Message, actor: ActorName) -> bool
 
 /// Whether an actor may make a step of its own, but for those that the plan asks for.
 fn is_able<A: Actor>(actor: &A, event: Event) -> bool
-    ensures { (acts : List Act) → A.stands actor.now acts → IsTrue result ↔ IsAble (A.identity_of actor.now) acts event }
+    ensures { (acts : List Act) → A.stands actor.now acts
+        → IsTrue result ↔ IsAble (A.identity_of actor.now) acts event }
 {
     match event {
         Event::Deliver { .. } | Event::Dropped { .. } => true,

@@ -16,7 +16,8 @@ use tp_text::{HeaderCauses, Lines, take_header, take_lines};
 // The lines behind the first.
 #[tactic(auto, unfolding(crate::specs::Meaning::entries_from))]
 fn take_entries(alloc: Global, lines: &mut Lines) -> Result<Entries, JournalError>
-    ensures read { Reads (λ es. (es, lines_of lines.new.left)) result (entries_from (lines.old.count + 1) (lines_of lines.old.left)) }
+    ensures read { Reads (λ es. (es, lines_of lines.new.left)) result
+        (entries_from (lines.old.count + 1) (lines_of lines.old.left)) }
     ensures all { OnOk result (all_lines lines.new ≡ all_lines lines.old) }
 {
     let mut draft = Draft {
@@ -33,7 +34,8 @@ fn take_entries(alloc: Global, lines: &mut Lines) -> Result<Entries, JournalErro
 // What a journal's lines say.
 #[tactic(auto, unfolding(crate::specs::Meaning::journal_at))]
 fn read_all(alloc: Global, lines: &mut Lines) -> Result<Entries, JournalError>
-    ensures exact { Reads (λ es. (es, lines_of lines.new.left)) result (journal_at (lines.old.count + 1) (lines_of lines.old.left)) }
+    ensures exact { Reads (λ es. (es, lines_of lines.new.left)) result
+        (journal_at (lines.old.count + 1) (lines_of lines.old.left)) }
     ensures all { OnOk result (all_lines lines.new ≡ all_lines lines.old) }
 {
     let causes = HeaderCauses {
@@ -49,9 +51,11 @@ pub fn read_journal(alloc: Global, lines: &mut Lines) -> Result<Entries, Journal
     // What is read is a journal that has a text, and its text stood there.
     ensures found { IfOk result (λ es. IsJournal es × (lines.old.left ≡ text_of es ++ lines.new.left)) }
     // The text of such a journal is read as it, unless memory runs out.
-    ensures only { (es : List Entry) (rest : List ℕ) → IsJournal es → lines.old.left ≡ text_of es ++ rest → IsReadAs es rest lines.new.left result }
+    ensures only { (es : List Entry) (rest : List ℕ) → IsJournal es → lines.old.left ≡ text_of es ++ rest
+        → IsReadAs es rest lines.new.left result }
     // A fault is the first one of the first faulty line.
-    ensures exact { Reads (λ es. (es, lines_of lines.new.left)) result (journal_at (lines.old.count + 1) (lines_of lines.old.left)) }
+    ensures exact { Reads (λ es. (es, lines_of lines.new.left)) result
+        (journal_at (lines.old.count + 1) (lines_of lines.old.left)) }
     // Its lines were counted.
     ensures counted { IfOk result (λ es. lines.new.count ≡ lines.old.count + length (journal_lines es)) }
 {

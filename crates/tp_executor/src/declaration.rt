@@ -18,7 +18,8 @@ fn declare_to(
     partition: PartitionId,
     id: CommandId,
 ) -> Result<(), NoMemory>
-    ensures { OnOk result (outputs.new ≡ outputs.old ++ to_each (ActorName.Executor site) (executors_of topology.now partition.0) (Body.MStable id)) }
+    ensures { OnOk result (outputs.new ≡ outputs.old ++ to_each (ActorName.Executor site)
+        (executors_of topology.now partition.0) (Body.MStable id)) }
 {
     for i in 0..topology.replicas() {
         outputs.add(Message {

@@ -45,7 +45,8 @@ fn result_of(
     id: CommandId,
     answers: Answers,
 ) -> Result<Outputs, NoMemory>
-    ensures { IfOk result (λ outputs. outputs ≡ message (ActorName.Executor site) (ActorName.Session id.session) (Body.MResult id site.partition answers) ∷ []) }
+    ensures { IfOk result (λ outputs. outputs ≡ message (ActorName.Executor site) (ActorName.Session id.session)
+        (Body.MResult id site.partition answers) ∷ []) }
 {
     let mut outputs = Sequence::from_vec(Vec::with_capacity(alloc, 1)?);
     outputs.add(Message {
@@ -85,7 +86,8 @@ impl Executor {
     /// The committed command with the least key that is not executed, where the rules let it
     /// execute now, or why they don't.
     pub fn may_execute(&self) -> Result<CommandId, Why>
-        ensures { (state : ExecutorState) → IsState self.now state → IsAnswer self.now.topology self.now.site state result }
+        ensures { (state : ExecutorState) → IsState self.now state
+            → IsAnswer self.now.topology self.now.site state result }
     {
         match self.queue.head() {
             Some((key, command)) => self.answer_for(key, command),
@@ -95,7 +97,8 @@ impl Executor {
 
     /// The same of a command, as if it had the least key.
     fn answer_for(&self, key: Key, command: &Command) -> Result<CommandId, Why>
-        ensures { (state : ExecutorState) → IsState self.now state → IsAnswerFor self.now.topology self.now.site state (record { key = key; command = command.now }) result }
+        ensures { (state : ExecutorState) → IsState self.now state
+            → IsAnswerFor self.now.topology self.now.site state (record { key = key; command = command.now }) result }
     {
         let threshold = threshold(&self.book, &self.topology);
         if threshold < key.stamp.0 {
@@ -109,7 +112,9 @@ impl Executor {
 
     /// The same of a command whose stamp is stable.
     fn answer_where_stable(&self, key: Key, command: &Command) -> Result<CommandId, Why>
-        ensures { (state : ExecutorState) → IsState self.now state → is_stable_for self.now.topology state.told (committed_ids state) key.stamp.0 ≡ true → IsAnswerFor self.now.topology self.now.site state (record { key = key; command = command.now }) result }
+        ensures { (state : ExecutorState) → IsState self.now state
+            → is_stable_for self.now.topology state.told (committed_ids state) key.stamp.0 ≡ true
+            → IsAnswerFor self.now.topology self.now.site state (record { key = key; command = command.now }) result }
     {
         if self.is_undeclared(key.id, command) {
             return Err(Why::NotDeclared);
@@ -123,14 +128,17 @@ impl Executor {
 
     /// Whether a command is on several partitions, and isn't declared here.
     fn is_undeclared(&self, id: CommandId, command: &Command) -> bool
-        ensures { (state : ExecutorState) → IsState self.now state → result ≡ is_undeclared state id (others_accessed self.now.topology command.now self.now.site.partition.0) }
+        ensures { (state : ExecutorState) → IsState self.now state
+            → result ≡ is_undeclared state id (others_accessed self.now.topology command.now self.now.site.partition.0) }
     {
         !self.declared.sent(id) && !is_alone(&self.topology, self.site.partition, command)
     }
 
     /// The step that the executor may make where this command has the least key.
     fn step_for(&self, key: Key, command: &Command) -> Option<Inner>
-        ensures { (state : ExecutorState) → IsState self.now state → result ≡ enabled_of self.now.topology self.now.site state (Some (record { key = key; command = command.now })) }
+        ensures { (state : ExecutorState) → IsState self.now state
+            → result ≡ enabled_of self.now.topology self.now.site state
+            (Some (record { key = key; command = command.now })) }
     {
         if !is_stable(&self.book, &self.topology, key.stamp) {
             return None;
@@ -146,7 +154,8 @@ impl Executor {
 
     /// The step that the executor may make.
     fn step(&self) -> Option<Inner>
-        ensures { (state : ExecutorState) → IsState self.now state → result ≡ enabled self.now.topology self.now.site state }
+        ensures { (state : ExecutorState) → IsState self.now state
+            → result ≡ enabled self.now.topology self.now.site state }
     {
         match self.queue.head() {
             Some((key, command)) => self.step_for(key, command),
@@ -161,7 +170,8 @@ impl Executor {
         requires some { lo < hi }
         requires attached { AreTold lo hi pairs.now }
         ensures identity { identity self.new ≡ identity self.old }
-        ensures state { OnOk result ((state : ExecutorState) → IsState self.old state → IsState self.new (on_promises self.old.site from lo hi pairs.now state).0) }
+        ensures state { OnOk result ((state : ExecutorState) → IsState self.old state
+            → IsState self.new (on_promises self.old.site from lo hi pairs.now state).0) }
     {
         match from {
             ActorName::Process(from) if from.partition == self.site.partition => {
@@ -173,7 +183,8 @@ impl Executor {
 
     fn commit(&mut self, command: &Command, stamp: Stamp) -> Result<(), NoMemory>
         ensures identity { identity self.new ≡ identity self.old }
-        ensures state { OnOk result ((state : ExecutorState) → IsState self.old state → IsState self.new (on_committed command.now stamp.0 state).0) }
+        ensures state { OnOk result ((state : ExecutorState) → IsState self.old state
+            → IsState self.new (on_committed command.now stamp.0 state).0) }
     {
         let key = Key {
             stamp,
@@ -189,7 +200,8 @@ impl Executor {
     fn hear(&mut self, from: ActorName, id: CommandId) -> Result<(), NoMemory>
         requires executor { IsExecutor from }
         ensures identity { identity self.new ≡ identity self.old }
-        ensures state { OnOk result ((state : ExecutorState) → IsState self.old state → IsState self.new (on_stable self.old.site from id state).0) }
+        ensures state { OnOk result ((state : ExecutorState) → IsState self.old state
+            → IsState self.new (on_stable self.old.site from id state).0) }
     {
         match from {
             ActorName::Executor(from) if from.partition != self.site.partition => {
@@ -201,7 +213,8 @@ impl Executor {
 
     /// Whether a message is to this executor, and from an actor of the store's shape.
     fn is_mine(&self, message: &Message) -> bool
-        ensures { result ≡ (same_name message.now.to (ActorName.Executor self.now.site) && is_name_of self.now.topology message.now.from) }
+        ensures { result ≡ (same_name message.now.to (ActorName.Executor self.now.site)
+            && is_name_of self.now.topology message.now.from) }
     {
         message.to == ActorName::Executor(self.site) && is_name_of(&self.topology, message.from)
     }
@@ -209,7 +222,8 @@ impl Executor {
     fn take(&mut self, message: &Message) -> Result<(), NoMemory>
         requires { IsInRange message.now }
         ensures identity { identity self.new ≡ identity self.old }
-        ensures state { OnOk result ((state : ExecutorState) → IsState self.old state → IsState self.new (on_message self.old.topology self.old.site message.now state).0) }
+        ensures state { OnOk result ((state : ExecutorState) → IsState self.old state
+            → IsState self.new (on_message self.old.topology self.old.site message.now state).0) }
     {
         if !self.is_mine(message) {
             return Ok(());
@@ -230,8 +244,10 @@ impl Executor {
     /// Declares the command with the least key of those that wait.
     fn declare(&mut self) -> Result<Outputs, NoMemory>
         ensures identity { identity self.new ≡ identity self.old }
-        ensures outputs { IfOk result (λ outputs. (state : ExecutorState) → IsState self.old state → outputs ≡ (on_declare self.old.topology self.old.site state).1) }
-        ensures state { OnOk result ((state : ExecutorState) → IsState self.old state → IsState self.new (on_declare self.old.topology self.old.site state).0) }
+        ensures outputs { IfOk result (λ outputs. (state : ExecutorState) → IsState self.old state
+            → outputs ≡ (on_declare self.old.topology self.old.site state).1) }
+        ensures state { OnOk result ((state : ExecutorState) → IsState self.old state
+            → IsState self.new (on_declare self.old.topology self.old.site state).0) }
     {
         let Some((_, command)) = self.queue.head() else {
             return Ok(Sequence::new(self.alloc));
@@ -245,8 +261,10 @@ impl Executor {
     /// Executes the command with the least key of those that wait.
     fn execute(&mut self) -> Result<Outputs, NoMemory>
         ensures identity { identity self.new ≡ identity self.old }
-        ensures outputs { IfOk result (λ outputs. (state : ExecutorState) → IsState self.old state → outputs ≡ (on_execute self.old.topology self.old.site state).1) }
-        ensures state { OnOk result ((state : ExecutorState) → IsState self.old state → IsState self.new (on_execute self.old.topology self.old.site state).0) }
+        ensures outputs { IfOk result (λ outputs. (state : ExecutorState) → IsState self.old state
+            → outputs ≡ (on_execute self.old.topology self.old.site state).1) }
+        ensures state { OnOk result ((state : ExecutorState) → IsState self.old state
+            → IsState self.new (on_execute self.old.topology self.old.site state).0) }
     {
         let Some((_, command)) = self.queue.pop() else {
             return Ok(Sequence::new(self.alloc));
@@ -259,8 +277,10 @@ impl Executor {
     /// Makes a step of its own.
     fn make(&mut self, inner: Inner) -> Result<Outputs, NoMemory>
         ensures identity { identity self.new ≡ identity self.old }
-        ensures outputs { IfOk result (λ outputs. (state : ExecutorState) → IsState self.old state → outputs ≡ (on_inner self.old.topology self.old.site inner state).1) }
-        ensures state { OnOk result ((state : ExecutorState) → IsState self.old state → IsState self.new (on_inner self.old.topology self.old.site inner state).0) }
+        ensures outputs { IfOk result (λ outputs. (state : ExecutorState) → IsState self.old state
+            → outputs ≡ (on_inner self.old.topology self.old.site inner state).1) }
+        ensures state { OnOk result ((state : ExecutorState) → IsState self.old state
+            → IsState self.new (on_inner self.old.topology self.old.site inner state).0) }
     {
         match inner {
             Inner::Declare(_) => self.declare(),

@@ -38,7 +38,9 @@ pub fn awaited(
     id: CommandId,
     command: &Command,
 ) -> Option<PartitionId>
-    ensures { (calls : Calls) → Keeps declared.now calls → option_map (λ q. q.0) result ≡ find (λ q. not (is_heard calls.heard id q)) (others_accessed topology.now command.now p.0) }
+    ensures { (calls : Calls) → Keeps declared.now calls
+        → option_map (λ q. q.0) result ≡ find (λ q. not (is_heard calls.heard id q))
+        (others_accessed topology.now command.now p.0) }
 {
     let partitions = topology.partitions();
     for i in 0..partitions {

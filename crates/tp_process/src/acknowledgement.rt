@@ -24,8 +24,12 @@ impl Process {
     ) -> Result<Outputs, NoMemory>
         requires { is_name_of self.old.place.topology from ≡ true }
         ensures identity { identity self.new ≡ identity self.old }
-        ensures outputs { IfOk result (λ outputs. (s : ProcessState) → IsState self.old s → IsProcess from → stamp.0 < STAMP_LIMIT → outputs ≡ (on_propose_ack (ring_rule self.old.place.topology) self.old.place.site from id stamp.0 s).1) }
-        ensures state { OnOk result ((s : ProcessState) → IsState self.old s → IsProcess from → stamp.0 < STAMP_LIMIT → IsState self.new (on_propose_ack (ring_rule self.old.place.topology) self.old.place.site from id stamp.0 s).0) }
+        ensures outputs { IfOk result (λ outputs. (s : ProcessState) → IsState self.old s → IsProcess from
+            → stamp.0 < STAMP_LIMIT
+            → outputs ≡ (on_propose_ack (ring_rule self.old.place.topology) self.old.place.site from id stamp.0 s).1) }
+        ensures state { OnOk result ((s : ProcessState) → IsState self.old s → IsProcess from → stamp.0 < STAMP_LIMIT
+            → IsState self.new (on_propose_ack (ring_rule self.old.place.topology) self.old.place.site from id stamp.0
+            s).0) }
     {
         match from {
             ActorName::Process(site) => self.count_proposal(site.rank, id, stamp),
@@ -42,8 +46,14 @@ impl Process {
         stamp: Stamp,
     ) -> Result<Outputs, NoMemory>
         ensures identity { identity self.new ≡ identity self.old }
-        ensures outputs { IfOk result (λ outputs. (s : ProcessState) → IsState self.old s → is_from 1 self.old.place.topology.replicas rank.0 ≡ true → stamp.0 < STAMP_LIMIT → outputs ≡ (on_propose_ack (ring_rule self.old.place.topology) self.old.place.site (ActorName.Process (site 0 rank.0)) id stamp.0 s).1) }
-        ensures state { OnOk result ((s : ProcessState) → IsState self.old s → is_from 1 self.old.place.topology.replicas rank.0 ≡ true → stamp.0 < STAMP_LIMIT → IsState self.new (on_propose_ack (ring_rule self.old.place.topology) self.old.place.site (ActorName.Process (site 0 rank.0)) id stamp.0 s).0) }
+        ensures outputs { IfOk result (λ outputs. (s : ProcessState) → IsState self.old s
+            → is_from 1 self.old.place.topology.replicas rank.0 ≡ true → stamp.0 < STAMP_LIMIT
+            → outputs ≡ (on_propose_ack (ring_rule self.old.place.topology) self.old.place.site
+            (ActorName.Process (site 0 rank.0)) id stamp.0 s).1) }
+        ensures state { OnOk result ((s : ProcessState) → IsState self.old s
+            → is_from 1 self.old.place.topology.replicas rank.0 ≡ true → stamp.0 < STAMP_LIMIT
+            → IsState self.new (on_propose_ack (ring_rule self.old.place.topology) self.old.place.site
+            (ActorName.Process (site 0 rank.0)) id stamp.0 s).0) }
     {
         match acknowledge(&mut self.sheets, &self.place, id, rank, stamp) {
             Some(FastChoice::Fast(top)) => self.decide(id, top),
@@ -57,8 +67,12 @@ impl Process {
     /// Tells the partition's stamp to all other processes of the command, and learns it here.
     pub(crate) fn decide(&mut self, id: CommandId, stamp: Stamp) -> Result<Outputs, NoMemory>
         ensures identity { identity self.new ≡ identity self.old }
-        ensures outputs { IfOk result (λ outputs. (s : ProcessState) → (sheet : Sheet) → IsState self.old (with_sheet id sheet s) → stamp.0 < STAMP_LIMIT → outputs ≡ (decided self.old.place.topology self.old.place.site id stamp.0 sheet s).1) }
-        ensures state { OnOk result ((s : ProcessState) → (sheet : Sheet) → IsState self.old (with_sheet id sheet s) → stamp.0 < STAMP_LIMIT → IsState self.new (decided self.old.place.topology self.old.place.site id stamp.0 sheet s).0) }
+        ensures outputs { IfOk result (λ outputs. (s : ProcessState) → (sheet : Sheet)
+            → IsState self.old (with_sheet id sheet s) → stamp.0 < STAMP_LIMIT
+            → outputs ≡ (decided self.old.place.topology self.old.place.site id stamp.0 sheet s).1) }
+        ensures state { OnOk result ((s : ProcessState) → (sheet : Sheet) → IsState self.old (with_sheet id sheet s)
+            → stamp.0 < STAMP_LIMIT
+            → IsState self.new (decided self.old.place.topology self.old.place.site id stamp.0 sheet s).0) }
     {
         let mut outputs = Sequence::new(self.alloc);
         self.tell_commit(&mut outputs, id, stamp)?;
@@ -74,7 +88,8 @@ impl Process {
         id: CommandId,
         stamp: Stamp,
     ) -> Result<(), NoMemory>
-        ensures { OnOk result (outputs.new ≡ outputs.old ++ commit_messages self.now.place.topology self.now.place.site (sheet_of self.now id).sheet.command stamp.0) }
+        ensures { OnOk result (outputs.new ≡ outputs.old ++ commit_messages self.now.place.topology self.now.place.site
+            (sheet_of self.now id).sheet.command stamp.0) }
     {
         match command_at(&self.sheets, &self.place, id) {
             Some(command) => {
@@ -97,7 +112,9 @@ impl Process {
         ballot: u64,
         stamp: Stamp,
     ) -> Result<Outputs, NoMemory>
-        ensures { IfOk result (λ outputs. outputs ≡ put_to_vote self.now.place.topology self.now.place.site ballot stamp.0 (sheet_of self.now id).sheet.command) }
+        ensures { IfOk result (λ outputs. outputs
+            ≡ put_to_vote self.now.place.topology self.now.place.site ballot stamp.0
+            (sheet_of self.now id).sheet.command) }
     {
         let mut outputs = Sequence::new(self.alloc);
         if let Some(command) = command_at(&self.sheets, &self.place, id) {

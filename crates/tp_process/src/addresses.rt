@@ -75,7 +75,8 @@ pub(crate) fn counterparts(
     place: &Place,
     command: &Command,
 ) -> Result<Names, NoMemory>
-    ensures { IfOk result (λ names. names ≡ map (λ q. ActorName.Process (site q place.now.site.rank.0)) (others_accessed place.now.topology command.now place.now.site.partition.0)) }
+    ensures { IfOk result (λ names. names ≡ map (λ q. ActorName.Process (site q place.now.site.rank.0))
+        (others_accessed place.now.topology command.now place.now.site.partition.0)) }
 {
     let mut names = Sequence::new(alloc);
     for number in 1..place.topology.partitions() + 1 {
@@ -98,7 +99,8 @@ pub(crate) fn other_processes(
     place: &Place,
     command: &Command,
 ) -> Result<Names, NoMemory>
-    ensures { IfOk result (λ names. names ≡ filter (λ to. not (same_name to (ActorName.Process place.now.site))) (flat_map (processes place.now.topology) (accessed place.now.topology command.now))) }
+    ensures { IfOk result (λ names. names ≡ filter (λ to. not (same_name to (ActorName.Process place.now.site)))
+        (flat_map (processes place.now.topology) (accessed place.now.topology command.now))) }
 {
     let mut names = Sequence::new(alloc);
     for number in 1..place.topology.partitions() + 1 {
@@ -112,7 +114,8 @@ pub(crate) fn other_processes(
 
 /// Adds the processes of a partition, but for that of this place.
 fn add_others(names: &mut Names, place: &Place, partition: PartitionId) -> Result<(), NoMemory>
-    ensures { OnOk result (names.new ≡ names.old ++ filter (λ to. not (same_name to (ActorName.Process place.now.site))) (processes place.now.topology partition.0)) }
+    ensures { OnOk result (names.new ≡ names.old ++ filter
+        (λ to. not (same_name to (ActorName.Process place.now.site))) (processes place.now.topology partition.0)) }
 {
     for rank in 1..place.topology.replicas() + 1 {
         let site = Site {

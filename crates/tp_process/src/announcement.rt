@@ -13,8 +13,10 @@ impl Process {
     /// Announces the promises that were not told yet to all executors of the partition.
     pub(crate) fn on_announce(&mut self) -> Result<Outputs, NoMemory>
         ensures identity { identity self.new ≡ identity self.old }
-        ensures outputs { IfOk result (λ outputs. (s : ProcessState) → IsState self.old s → outputs ≡ (on_announce self.old.place.topology self.old.place.site s).1) }
-        ensures state { OnOk result ((s : ProcessState) → IsState self.old s → IsState self.new (on_announce self.old.place.topology self.old.place.site s).0) }
+        ensures outputs { IfOk result (λ outputs. (s : ProcessState) → IsState self.old s
+            → outputs ≡ (on_announce self.old.place.topology self.old.place.site s).1) }
+        ensures state { OnOk result ((s : ProcessState) → IsState self.old s
+            → IsState self.new (on_announce self.old.place.topology self.old.place.site s).0) }
     {
         if self.clock.told() < self.clock.now() {
             return self.announce();
@@ -25,7 +27,8 @@ impl Process {
     #[tactic(auto, unfolding(tp_rules::specs::Process::announced))]
     fn announce(&mut self) -> Result<Outputs, NoMemory>
         ensures identity { identity self.new ≡ identity self.old }
-        ensures outputs { IfOk result (λ outputs. (s : ProcessState) → IsState self.old s → outputs ≡ announced self.old.place.topology self.old.place.site s) }
+        ensures outputs { IfOk result (λ outputs. (s : ProcessState) → IsState self.old s
+            → outputs ≡ announced self.old.place.topology self.old.place.site s) }
         ensures state { OnOk result ((s : ProcessState) → IsState self.old s → IsState self.new (all_told s)) }
     {
         let place = self.place;

@@ -23,8 +23,12 @@ impl Process {
         requires command { is_command_at self.old.place.topology self.old.place.site.partition.0 command.now ≡ true }
         requires partition { is_from 1 self.old.place.topology.partitions partition.0 ≡ true }
         ensures identity { identity self.new ≡ identity self.old }
-        ensures outputs { IfOk result (λ outputs. (s : ProcessState) → IsState self.old s → stamp.0 < STAMP_LIMIT → outputs ≡ (on_commit (ring_rule self.old.place.topology) self.old.place.site command.now partition.0 stamp.0 s).1) }
-        ensures state { OnOk result ((s : ProcessState) → IsState self.old s → stamp.0 < STAMP_LIMIT → IsState self.new (on_commit (ring_rule self.old.place.topology) self.old.place.site command.now partition.0 stamp.0 s).0) }
+        ensures outputs { IfOk result (λ outputs. (s : ProcessState) → IsState self.old s → stamp.0 < STAMP_LIMIT
+            → outputs
+            ≡ (on_commit (ring_rule self.old.place.topology) self.old.place.site command.now partition.0 stamp.0 s).1) }
+        ensures state { OnOk result ((s : ProcessState) → IsState self.old s → stamp.0 < STAMP_LIMIT
+            → IsState self.new (on_commit (ring_rule self.old.place.topology) self.old.place.site command.now
+            partition.0 stamp.0 s).0) }
     {
         if !accesses(command, self.place.topology.partitions(), partition) {
             return Ok(self.nothing());
@@ -46,8 +50,13 @@ impl Process {
         requires some { 1 ≤ partition.0 }
         requires few { partition.0 ≤ 4 }
         ensures identity { identity self.new ≡ identity self.old }
-        ensures outputs { OnOk result ((s : ProcessState) → (sheet : Sheet) → IsState self.old (with_sheet id sheet s) → stamp.0 < STAMP_LIMIT → outputs.new ≡ outputs.old ++ (learned self.old.place.topology self.old.place.site id partition.0 stamp.0 sheet s).1) }
-        ensures state { OnOk result ((s : ProcessState) → (sheet : Sheet) → IsState self.old (with_sheet id sheet s) → stamp.0 < STAMP_LIMIT → IsState self.new (learned self.old.place.topology self.old.place.site id partition.0 stamp.0 sheet s).0) }
+        ensures outputs { OnOk result ((s : ProcessState) → (sheet : Sheet) → IsState self.old (with_sheet id sheet s)
+            → stamp.0 < STAMP_LIMIT
+            → outputs.new
+            ≡ outputs.old ++ (learned self.old.place.topology self.old.place.site id partition.0 stamp.0 sheet s).1) }
+        ensures state { OnOk result ((s : ProcessState) → (sheet : Sheet) → IsState self.old (with_sheet id sheet s)
+            → stamp.0 < STAMP_LIMIT
+            → IsState self.new (learned self.old.place.topology self.old.place.site id partition.0 stamp.0 sheet s).0) }
     {
         match learn(&mut self.sheets, &self.place, id, partition, stamp)? {
             Some(last) => {
@@ -65,7 +74,8 @@ impl Process {
         id: CommandId,
         stamp: Stamp,
     ) -> Result<(), NoMemory>
-        ensures { OnOk result (outputs.new ≡ outputs.old ++ committed self.now.place.site (sheet_of self.now id).sheet.command stamp.0) }
+        ensures { OnOk result (outputs.new ≡ outputs.old ++ committed self.now.place.site
+            (sheet_of self.now id).sheet.command stamp.0) }
     {
         match command_at(&self.sheets, &self.place, id) {
             Some(command) => outputs.add(Message {

@@ -24,8 +24,10 @@ impl Process {
     ) -> Result<Outputs, NoMemory>
         requires { is_command_at self.old.place.topology self.old.place.site.partition.0 command.now ≡ true }
         ensures identity { identity self.new ≡ identity self.old }
-        ensures outputs { IfOk result (λ outputs. (s : ProcessState) → IsState self.old s → outputs ≡ (on_consensus self.old.place.site from command.now stamp.0 ballot s).1) }
-        ensures state { OnOk result ((s : ProcessState) → IsState self.old s → stamp.0 < the_limit → IsState self.new (on_consensus self.old.place.site from command.now stamp.0 ballot s).0) }
+        ensures outputs { IfOk result (λ outputs. (s : ProcessState) → IsState self.old s
+            → outputs ≡ (on_consensus self.old.place.site from command.now stamp.0 ballot s).1) }
+        ensures state { OnOk result ((s : ProcessState) → IsState self.old s → stamp.0 < the_limit
+            → IsState self.new (on_consensus self.old.place.site from command.now stamp.0 ballot s).0) }
     {
         if STAMP_LIMIT <= ballot {
             return Ok(self.nothing());
@@ -49,8 +51,11 @@ impl Process {
     ) -> Result<Outputs, NoMemory>
         requires { is_name_of self.old.place.topology from ≡ true }
         ensures identity { identity self.new ≡ identity self.old }
-        ensures outputs { IfOk result (λ outputs. (s : ProcessState) → IsState self.old s → IsProcess from → outputs ≡ (on_consensus_ack (ring_rule self.old.place.topology) self.old.place.site from id ballot s).1) }
-        ensures state { OnOk result ((s : ProcessState) → IsState self.old s → IsProcess from → IsState self.new (on_consensus_ack (ring_rule self.old.place.topology) self.old.place.site from id ballot s).0) }
+        ensures outputs { IfOk result (λ outputs. (s : ProcessState) → IsState self.old s → IsProcess from
+            → outputs ≡ (on_consensus_ack (ring_rule self.old.place.topology) self.old.place.site from id ballot s).1) }
+        ensures state { OnOk result ((s : ProcessState) → IsState self.old s → IsProcess from
+            → IsState self.new (on_consensus_ack (ring_rule self.old.place.topology) self.old.place.site from id ballot
+            s).0) }
     {
         match from {
             ActorName::Process(site) => self.count_vote(site.rank, id, ballot),
@@ -61,8 +66,14 @@ impl Process {
     /// Counts a rank's vote: with the last of a consensus quorum, the stamp that is put is decided.
     fn count_vote(&mut self, rank: Rank, id: CommandId, ballot: u64) -> Result<Outputs, NoMemory>
         ensures identity { identity self.new ≡ identity self.old }
-        ensures outputs { IfOk result (λ outputs. (s : ProcessState) → IsState self.old s → is_from 1 self.old.place.topology.replicas rank.0 ≡ true → outputs ≡ (on_consensus_ack (ring_rule self.old.place.topology) self.old.place.site (ActorName.Process (site 0 rank.0)) id ballot s).1) }
-        ensures state { OnOk result ((s : ProcessState) → IsState self.old s → is_from 1 self.old.place.topology.replicas rank.0 ≡ true → IsState self.new (on_consensus_ack (ring_rule self.old.place.topology) self.old.place.site (ActorName.Process (site 0 rank.0)) id ballot s).0) }
+        ensures outputs { IfOk result (λ outputs. (s : ProcessState) → IsState self.old s
+            → is_from 1 self.old.place.topology.replicas rank.0 ≡ true
+            → outputs ≡ (on_consensus_ack (ring_rule self.old.place.topology) self.old.place.site
+            (ActorName.Process (site 0 rank.0)) id ballot s).1) }
+        ensures state { OnOk result ((s : ProcessState) → IsState self.old s
+            → is_from 1 self.old.place.topology.replicas rank.0 ≡ true
+            → IsState self.new (on_consensus_ack (ring_rule self.old.place.topology) self.old.place.site
+            (ActorName.Process (site 0 rank.0)) id ballot s).0) }
     {
         match vote(&mut self.sheets, &self.place, id, rank, ballot) {
             Some(stamp) => self.decide(id, stamp),
@@ -72,7 +83,8 @@ impl Process {
 
     /// The vote for what a rank puts at a ballot.
     fn agreement(&self, from: ActorName, id: CommandId, ballot: u64) -> Result<Outputs, NoMemory>
-        ensures { IfOk result (λ outputs. outputs ≡ message (ActorName.Process self.now.place.site) from (Body.MConsensusAck id ballot) ∷ []) }
+        ensures { IfOk result (λ outputs. outputs ≡ message (ActorName.Process self.now.place.site) from
+            (Body.MConsensusAck id ballot) ∷ []) }
     {
         let mut outputs = self.room(1)?;
         outputs.add(Message {

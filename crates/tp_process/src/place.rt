@@ -53,7 +53,9 @@ impl Place {
 
     /// Whether a message is to the process of this place, and names nothing outside the shape.
     pub(crate) fn takes(&self, message: &Message) -> bool
-        ensures { result ≡ (same_name message.now.to (ActorName.Process self.now.site) && is_name_of self.now.topology message.now.from && is_body_at self.now.topology self.now.site.partition.0 message.now.body) }
+        ensures { result ≡ (same_name message.now.to
+            (ActorName.Process self.now.site) && is_name_of self.now.topology message.now.from
+            && is_body_at self.now.topology self.now.site.partition.0 message.now.body) }
     {
         message.to == self.name() && self.has_name(message.from) && self.takes_body(&message.body)
     }

@@ -51,14 +51,17 @@ impl Process {
 
     /// The greatest number that is promised.
     pub fn clock(&self) -> u64
-        ensures { (acts : List Act) → Stands self.now acts → result ≡ (state_after (ring_rule self.now.place.topology) self.now.place.site acts).clock }
+        ensures { (acts : List Act) → Stands self.now acts
+            → result ≡ (state_after (ring_rule self.now.place.topology) self.now.place.site acts).clock }
     {
         self.clock.now()
     }
 
     /// The command's final stamp, where the stamps of all its partitions are known.
     pub fn stamp(&self, id: CommandId) -> Option<Stamp>
-        ensures { (acts : List Act) → Stands self.now acts → let sheet = (state_after (ring_rule self.now.place.topology) self.now.place.site acts).sheets id in option_map (λ t. t.0) result ≡ final_stamp_in self.now.place.topology sheet sheet.command }
+        ensures { (acts : List Act) → Stands self.now acts
+            → let sheet = (state_after (ring_rule self.now.place.topology) self.now.place.site acts).sheets id
+            in option_map (λ t. t.0) result ≡ final_stamp_in self.now.place.topology sheet sheet.command }
     {
         final_stamp(&self.sheets, &self.place, id)
     }
@@ -88,7 +91,11 @@ impl Process {
     /// Attaches the stamp that the clock has just proposed to a command.
     pub(crate) fn promise(&mut self, id: CommandId, stamp: Stamp) -> Result<(), NoMemory>
         ensures identity { identity self.new ≡ identity self.old }
-        ensures state { OnOk result ((s : ProcessState) → (sheet : Sheet) → (before : Promised) → Agrees self.old.place.topology self.old.place.site before.clock before.told self.old.untold self.old.sheets (with_sheet id sheet s) → s.clock < stamp.0 → stamp.0 < the_limit → self.old.clock ≡ record { clock = stamp.0; told = before.told } → IsState self.new (proposing id stamp.0 sheet s)) }
+        ensures state { OnOk result ((s : ProcessState) → (sheet : Sheet) → (before : Promised)
+            → Agrees self.old.place.topology self.old.place.site before.clock before.told self.old.untold
+            self.old.sheets (with_sheet id sheet s) → s.clock < stamp.0 → stamp.0 < the_limit
+            → self.old.clock ≡ record { clock = stamp.0; told = before.told }
+            → IsState self.new (proposing id stamp.0 sheet s)) }
     {
         self.untold.add(Pair { id, stamp })?;
         Ok(())
@@ -97,7 +104,8 @@ impl Process {
     /// Promises to none the numbers above the clock up to a stamp.
     pub(crate) fn bump(&mut self, stamp: Stamp)
         ensures identity { identity self.new ≡ identity self.old }
-        ensures state { (s : ProcessState) → IsState self.old s → stamp.0 < the_limit → IsState self.new (bumped stamp.0 s) }
+        ensures state { (s : ProcessState) → IsState self.old s → stamp.0 < the_limit
+            → IsState self.new (bumped stamp.0 s) }
     {
         if stamp.0 < STAMP_LIMIT {
             self.clock.bump(stamp.0);
@@ -106,8 +114,10 @@ impl Process {
 
     fn take(&mut self, message: &Message) -> Result<Outputs, NoMemory>
         ensures identity { identity self.new ≡ identity self.old }
-        ensures outputs { IfOk result (λ outputs. (s : ProcessState) → IsState self.old s → IsInRange message.now → outputs ≡ (on_message (ring_rule self.old.place.topology) self.old.place.site message.now s).1) }
-        ensures state { OnOk result ((s : ProcessState) → IsState self.old s → IsInRange message.now → IsState self.new (on_message (ring_rule self.old.place.topology) self.old.place.site message.now s).0) }
+        ensures outputs { IfOk result (λ outputs. (s : ProcessState) → IsState self.old s → IsInRange message.now
+            → outputs ≡ (on_message (ring_rule self.old.place.topology) self.old.place.site message.now s).1) }
+        ensures state { OnOk result ((s : ProcessState) → IsState self.old s → IsInRange message.now
+            → IsState self.new (on_message (ring_rule self.old.place.topology) self.old.place.site message.now s).0) }
     {
         if !self.place.takes(message) {
             return Ok(self.nothing());
@@ -145,8 +155,10 @@ impl Process {
 
     fn act(&mut self, inner: Inner) -> Result<Outputs, NoMemory>
         ensures identity { identity self.new ≡ identity self.old }
-        ensures outputs { IfOk result (λ outputs. (s : ProcessState) → IsState self.old s → outputs ≡ (on_inner (ring_rule self.old.place.topology) self.old.place.site inner s).1) }
-        ensures state { OnOk result ((s : ProcessState) → IsState self.old s → IsState self.new (on_inner (ring_rule self.old.place.topology) self.old.place.site inner s).0) }
+        ensures outputs { IfOk result (λ outputs. (s : ProcessState) → IsState self.old s
+            → outputs ≡ (on_inner (ring_rule self.old.place.topology) self.old.place.site inner s).1) }
+        ensures state { OnOk result ((s : ProcessState) → IsState self.old s
+            → IsState self.new (on_inner (ring_rule self.old.place.topology) self.old.place.site inner s).0) }
     {
         match inner {
             Inner::Announce => self.on_announce(),
@@ -179,8 +191,10 @@ impl Actor for Process {
     fn deliver(&mut self, message: &Message) -> Result<Outputs, NoMemory>
         ensures identity { identity self.new ≡ identity self.old }
         ensures spent { self.new.spent ≡ is_err result }
-        ensures outputs { IfOk result (λ outputs. (acts : List Act) → Stands self.old acts → IsInRange message.now → outputs ≡ outputs_of (identity self.old) acts (Took message.now)) }
-        ensures stands { OnOk result ((acts : List Act) → Stands self.old acts → IsInRange message.now → Stands self.new (Took message.now ∷ acts)) }
+        ensures outputs { IfOk result (λ outputs. (acts : List Act) → Stands self.old acts → IsInRange message.now
+            → outputs ≡ outputs_of (identity self.old) acts (Took message.now)) }
+        ensures stands { OnOk result ((acts : List Act) → Stands self.old acts → IsInRange message.now
+            → Stands self.new (Took message.now ∷ acts)) }
     {
         let outcome = self.take(message);
         self.spent = outcome.is_err();
@@ -190,7 +204,8 @@ impl Actor for Process {
     fn fire(&mut self, inner: Inner) -> Result<Outputs, NoMemory>
         ensures identity { identity self.new ≡ identity self.old }
         ensures spent { self.new.spent ≡ is_err result }
-        ensures outputs { IfOk result (λ outputs. (acts : List Act) → Stands self.old acts → outputs ≡ outputs_of (identity self.old) acts (Did inner)) }
+        ensures outputs { IfOk result (λ outputs. (acts : List Act) → Stands self.old acts
+            → outputs ≡ outputs_of (identity self.old) acts (Did inner)) }
         ensures stands { OnOk result ((acts : List Act) → Stands self.old acts → Stands self.new (Did inner ∷ acts)) }
     {
         let outcome = self.act(inner);

@@ -21,8 +21,10 @@ impl Process {
     /// The site recovers a command: all ranks are asked at the next ballot.
     pub(crate) fn on_recover(&mut self, id: CommandId) -> Result<Outputs, NoMemory>
         ensures identity { identity self.new ≡ identity self.old }
-        ensures outputs { IfOk result (λ outputs. (s : ProcessState) → IsState self.old s → outputs ≡ (on_recover self.old.place.topology self.old.place.site id s).1) }
-        ensures state { OnOk result ((s : ProcessState) → IsState self.old s → IsState self.new (on_recover self.old.place.topology self.old.place.site id s).0) }
+        ensures outputs { IfOk result (λ outputs. (s : ProcessState) → IsState self.old s
+            → outputs ≡ (on_recover self.old.place.topology self.old.place.site id s).1) }
+        ensures state { OnOk result ((s : ProcessState) → IsState self.old s
+            → IsState self.new (on_recover self.old.place.topology self.old.place.site id s).0) }
     {
         match recover(&mut self.sheets, &self.place, id) {
             Some(ballot) => self.ask(id, ballot),
@@ -39,8 +41,13 @@ impl Process {
     ) -> Result<Outputs, NoMemory>
         requires { is_command_at self.old.place.topology self.old.place.site.partition.0 command.now ≡ true }
         ensures identity { identity self.new ≡ identity self.old }
-        ensures outputs { IfOk result (λ outputs. (s : ProcessState) → IsState self.old s → outputs ≡ (with_room s (on_rec (ring_rule self.old.place.topology) self.old.place.site from command.now ballot s)).1) }
-        ensures state { OnOk result ((s : ProcessState) → IsState self.old s → IsState self.new (with_room s (on_rec (ring_rule self.old.place.topology) self.old.place.site from command.now ballot s)).0) }
+        ensures outputs { IfOk result (λ outputs. (s : ProcessState) → IsState self.old s
+            → outputs
+            ≡ (with_room s (on_rec (ring_rule self.old.place.topology) self.old.place.site from command.now ballot
+            s)).1) }
+        ensures state { OnOk result ((s : ProcessState) → IsState self.old s
+            → IsState self.new (with_room s (on_rec
+            (ring_rule self.old.place.topology) self.old.place.site from command.now ballot s)).0) }
     {
         let partition = self.place.site.partition;
         match stamp_at(&self.sheets, &self.place, command.id, partition) {
@@ -61,8 +68,14 @@ impl Process {
     ) -> Result<Outputs, NoMemory>
         requires { is_name_of self.old.place.topology from ≡ true }
         ensures identity { identity self.new ≡ identity self.old }
-        ensures outputs { IfOk result (λ outputs. (s : ProcessState) → IsState self.old s → IsProcess from → stamp.0 < the_limit → outputs ≡ (on_rec_ack (ring_rule self.old.place.topology) self.old.place.site from id stamp.0 made accepted ballot s).1) }
-        ensures state { OnOk result ((s : ProcessState) → IsState self.old s → IsProcess from → stamp.0 < the_limit → IsState self.new (on_rec_ack (ring_rule self.old.place.topology) self.old.place.site from id stamp.0 made accepted ballot s).0) }
+        ensures outputs { IfOk result (λ outputs. (s : ProcessState) → IsState self.old s → IsProcess from
+            → stamp.0 < the_limit
+            → outputs
+            ≡ (on_rec_ack (ring_rule self.old.place.topology) self.old.place.site from id stamp.0 made accepted ballot
+            s).1) }
+        ensures state { OnOk result ((s : ProcessState) → IsState self.old s → IsProcess from → stamp.0 < the_limit
+            → IsState self.new (on_rec_ack (ring_rule self.old.place.topology) self.old.place.site from id stamp.0 made
+            accepted ballot s).0) }
     {
         match from {
             ActorName::Process(site) => {
@@ -86,8 +99,14 @@ impl Process {
         ballot: u64,
     ) -> Result<Outputs, NoMemory>
         ensures identity { identity self.new ≡ identity self.old }
-        ensures outputs { IfOk result (λ outputs. (s : ProcessState) → IsState self.old s → is_from 1 self.old.place.topology.replicas told.rank.0 ≡ true → told.stamp.0 < the_limit → outputs ≡ (on_rec_ack (ring_rule self.old.place.topology) self.old.place.site (ActorName.Process (site 0 told.rank.0)) id told.stamp.0 told.made told.accepted ballot s).1) }
-        ensures state { OnOk result ((s : ProcessState) → IsState self.old s → is_from 1 self.old.place.topology.replicas told.rank.0 ≡ true → told.stamp.0 < the_limit → IsState self.new (on_rec_ack (ring_rule self.old.place.topology) self.old.place.site (ActorName.Process (site 0 told.rank.0)) id told.stamp.0 told.made told.accepted ballot s).0) }
+        ensures outputs { IfOk result (λ outputs. (s : ProcessState) → IsState self.old s
+            → is_from 1 self.old.place.topology.replicas told.rank.0 ≡ true → told.stamp.0 < the_limit
+            → outputs ≡ (on_rec_ack (ring_rule self.old.place.topology) self.old.place.site
+            (ActorName.Process (site 0 told.rank.0)) id told.stamp.0 told.made told.accepted ballot s).1) }
+        ensures state { OnOk result ((s : ProcessState) → IsState self.old s
+            → is_from 1 self.old.place.topology.replicas told.rank.0 ≡ true → told.stamp.0 < the_limit
+            → IsState self.new (on_rec_ack (ring_rule self.old.place.topology) self.old.place.site
+            (ActorName.Process (site 0 told.rank.0)) id told.stamp.0 told.made told.accepted ballot s).0) }
     {
         match answer(&mut self.sheets, &self.place, id, told, ballot) {
             Some(stamp) => self.put_to_vote(id, ballot, stamp),
@@ -106,8 +125,12 @@ impl Process {
         requires command { is_command_at self.old.place.topology self.old.place.site.partition.0 command.now ≡ true }
         requires unknown { stamp_of (sheet_of self.old command.now.id).sheet self.old.place.site.partition.0 ≡ None }
         ensures identity { identity self.new ≡ identity self.old }
-        ensures outputs { IfOk result (λ outputs. (s : ProcessState) → IsState self.old s → outputs ≡ (with_room s (on_rec_by_stamp (ring_rule self.old.place.topology) self.old.place.site from command.now ballot None s)).1) }
-        ensures state { OnOk result ((s : ProcessState) → IsState self.old s → IsState self.new (with_room s (on_rec_by_stamp (ring_rule self.old.place.topology) self.old.place.site from command.now ballot None s)).0) }
+        ensures outputs { IfOk result (λ outputs. (s : ProcessState) → IsState self.old s
+            → outputs ≡ (with_room s (on_rec_by_stamp
+            (ring_rule self.old.place.topology) self.old.place.site from command.now ballot None s)).1) }
+        ensures state { OnOk result ((s : ProcessState) → IsState self.old s
+            → IsState self.new (with_room s (on_rec_by_stamp
+            (ring_rule self.old.place.topology) self.old.place.site from command.now ballot None s)).0) }
     {
         if !is_tried(ballot) {
             return Ok(self.nothing());
@@ -130,8 +153,10 @@ impl Process {
     ) -> Result<Outputs, NoMemory>
         requires { is_command_at self.old.place.topology self.old.place.site.partition.0 command.now ≡ true }
         ensures identity { identity self.new ≡ identity self.old }
-        ensures outputs { IfOk result (λ outputs. (s : ProcessState) → IsState self.old s → outputs ≡ (agreed_above self.old.place.site from command.now ballot s).1) }
-        ensures state { OnOk result ((s : ProcessState) → IsState self.old s → IsState self.new (agreed_above self.old.place.site from command.now ballot s).0) }
+        ensures outputs { IfOk result (λ outputs. (s : ProcessState) → IsState self.old s
+            → outputs ≡ (agreed_above self.old.place.site from command.now ballot s).1) }
+        ensures state { OnOk result ((s : ProcessState) → IsState self.old s
+            → IsState self.new (agreed_above self.old.place.site from command.now ballot s).0) }
     {
         match promise(&mut self.sheets, &self.place, command.id, ballot)? {
             Some(told) => {
@@ -155,8 +180,14 @@ impl Process {
         requires above { nat_lt (sheet_of self.old command.now.id).sheet.ballot ballot ≡ true }
         requires room { nat_lt self.old.clock.clock (the_limit - 1) ≡ true }
         ensures identity { identity self.new ≡ identity self.old }
-        ensures outputs { IfOk result (λ outputs. (s : ProcessState) → IsState self.old s → outputs ≡ (propose_and_answer (ring_rule self.old.place.topology) self.old.place.site from command.now ballot (next_stamp 0 s) (s.sheets command.now.id) s).1) }
-        ensures state { OnOk result ((s : ProcessState) → IsState self.old s → IsState self.new (propose_and_answer (ring_rule self.old.place.topology) self.old.place.site from command.now ballot (next_stamp 0 s) (s.sheets command.now.id) s).0) }
+        ensures outputs { IfOk result (λ outputs. (s : ProcessState) → IsState self.old s
+            → outputs
+            ≡ (propose_and_answer (ring_rule self.old.place.topology) self.old.place.site from command.now ballot
+            (next_stamp 0 s) (s.sheets command.now.id) s).1) }
+        ensures state { OnOk result ((s : ProcessState) → IsState self.old s
+            → IsState self.new (propose_and_answer
+            (ring_rule self.old.place.topology) self.old.place.site from command.now ballot (next_stamp 0 s)
+            (s.sheets command.now.id) s).0) }
     {
         let stamp = self.clock.propose(0);
         let copy = command.copy()?;
@@ -179,7 +210,10 @@ impl Process {
         ballot: u64,
         stamp: Stamp,
     ) -> Result<Outputs, NoMemory>
-        ensures { IfOk result (λ outputs. outputs ≡ answer_with self.now.place.site from command.now.id ballot told ∷ bumps self.now.place.topology self.now.place.site (kept_or command.now (sheet_of self.now command.now.id).sheet) stamp.0) }
+        ensures { IfOk result (λ outputs. outputs
+            ≡ answer_with self.now.place.site from command.now.id ballot told
+            ∷ bumps self.now.place.topology self.now.place.site
+            (kept_or command.now (sheet_of self.now command.now.id).sheet) stamp.0) }
     {
         let mut outputs = self.nothing();
         outputs.add(self.answer(from, command.id, told, ballot))?;
@@ -205,7 +239,8 @@ impl Process {
 
     /// Tells the partition's stamp of a command to the one that recovers it.
     fn tell_stamp(&self, from: ActorName, id: CommandId, stamp: Stamp) -> Result<Outputs, NoMemory>
-        ensures { IfOk result (λ outputs. outputs ≡ commit_reply self.now.place.site from (sheet_of self.now id).sheet.command stamp.0) }
+        ensures { IfOk result (λ outputs. outputs ≡ commit_reply self.now.place.site from
+            (sheet_of self.now id).sheet.command stamp.0) }
     {
         let mut outputs = self.nothing();
         if let Some(command) = command_at(&self.sheets, &self.place, id) {
@@ -224,7 +259,8 @@ impl Process {
 
     /// Asks all ranks for what they know of a command, at a ballot.
     fn ask(&self, id: CommandId, ballot: u64) -> Result<Outputs, NoMemory>
-        ensures { IfOk result (λ outputs. outputs ≡ asked self.now.place.topology self.now.place.site ballot (sheet_of self.now id).sheet.command) }
+        ensures { IfOk result (λ outputs. outputs ≡ asked self.now.place.topology self.now.place.site ballot
+            (sheet_of self.now id).sheet.command) }
     {
         let mut outputs = self.nothing();
         if let Some(command) = command_at(&self.sheets, &self.place, id) {

@@ -17,7 +17,8 @@ pub(crate) type Sheets = IndexMap<CommandId, Sheet>;
 
 /// Whether a command is fresh.
 pub(crate) fn is_fresh(sheets: &Sheets, place: &Place, id: CommandId) -> bool
-    ensures { let kept = sheet_at place.now.topology place.now.site sheets.now id in result ≡ is_fresh_in kept.site.partition.0 kept.sheet }
+    ensures { let kept = sheet_at place.now.topology place.now.site sheets.now id
+        in result ≡ is_fresh_in kept.site.partition.0 kept.sheet }
 {
     match sheets.get(&id) {
         Some(sheet) => sheet.is_fresh(),
@@ -41,7 +42,8 @@ pub(crate) fn command_at<'a>(
 
 /// The command that is kept in a command's sheet, or else this one.
 pub(crate) fn command_or<'a>(sheets: &'a Sheets, place: &Place, command: &'a Command) -> &'a Command
-    ensures { result.now ≡ kept_or command.now (sheet_at place.now.topology place.now.site sheets.now command.now.id).sheet }
+    ensures { result.now
+        ≡ kept_or command.now (sheet_at place.now.topology place.now.site sheets.now command.now.id).sheet }
 {
     match command_at(sheets, place, command.id) {
         Some(kept) => kept,
@@ -71,7 +73,9 @@ fn open(sheets: &mut Sheets, place: &Place, id: CommandId) -> Result<(), NoMemor
 
 /// Keeps a command in its sheet.
 pub(crate) fn keep(sheets: &mut Sheets, place: &Place, command: Command) -> Result<(), NoMemory>
-    ensures { OnOk result (let old = sheet_at place.now.topology place.now.site sheets.old command.id in ChangesSheet place.now.topology place.now.site sheets.old sheets.new command.id (with_sheet (with_command command old.sheet) old)) }
+    ensures { OnOk result (let old = sheet_at place.now.topology place.now.site sheets.old command.id
+        in ChangesSheet place.now.topology place.now.site sheets.old sheets.new command.id
+        (with_sheet (with_command command old.sheet) old)) }
 {
     let id = command.id;
     open(sheets, place, id)?;
@@ -88,7 +92,9 @@ pub(crate) fn propose(
     command: Command,
     stamp: Stamp,
 ) -> Result<(), NoMemory>
-    ensures { OnOk result (let old = sheet_at place.now.topology place.now.site sheets.old command.id in ChangesSheet place.now.topology place.now.site sheets.old sheets.new command.id (with_sheet (with_proposal stamp.0 Made.Proposal (with_command command old.sheet)) old)) }
+    ensures { OnOk result (let old = sheet_at place.now.topology place.now.site sheets.old command.id
+        in ChangesSheet place.now.topology place.now.site sheets.old sheets.new command.id
+        (with_sheet (with_proposal stamp.0 Made.Proposal (with_command command old.sheet)) old)) }
 {
     let id = command.id;
     open(sheets, place, id)?;
@@ -106,7 +112,10 @@ pub(crate) fn submit(
     command: Command,
     stamp: Stamp,
 ) -> Result<(), NoMemory>
-    ensures { OnOk result (let old = sheet_at place.now.topology place.now.site sheets.old command.id in ChangesSheet place.now.topology place.now.site sheets.old sheets.new command.id (with_own_ack stamp.0 (with_sheet (with_proposal stamp.0 Made.Proposal (with_command command old.sheet)) old))) }
+    ensures { OnOk result (let old = sheet_at place.now.topology place.now.site sheets.old command.id
+        in ChangesSheet place.now.topology place.now.site sheets.old sheets.new command.id
+        (with_own_ack stamp.0 (with_sheet (with_proposal stamp.0 Made.Proposal
+        (with_command command old.sheet)) old))) }
 {
     let id = command.id;
     open(sheets, place, id)?;
@@ -126,8 +135,10 @@ pub(crate) fn acknowledge(
     rank: Rank,
     stamp: Stamp,
 ) -> Option<FastChoice>
-    ensures choice { result ≡ choice_after_ack rank.0 stamp.0 (sheet_at place.now.topology place.now.site sheets.old id) }
-    ensures changed { ChangesSheet place.now.topology place.now.site sheets.old sheets.new id (with_acknowledgement rank.0 stamp.0 (sheet_at place.now.topology place.now.site sheets.old id)) }
+    ensures choice { result ≡ choice_after_ack rank.0 stamp.0
+        (sheet_at place.now.topology place.now.site sheets.old id) }
+    ensures changed { ChangesSheet place.now.topology place.now.site sheets.old sheets.new id
+        (with_acknowledgement rank.0 stamp.0 (sheet_at place.now.topology place.now.site sheets.old id)) }
 {
     match sheets.get_mut(&id) {
         Some(sheet) => sheet.acknowledge(rank, stamp),
@@ -143,8 +154,10 @@ pub(crate) fn accept(
     stamp: Stamp,
     ballot: u64,
 ) -> Result<bool, NoMemory>
-    ensures accepts { IfOk result (λ accepted. let kept = sheet_at place.now.topology place.now.site sheets.old id in accepted ≡ can_accept kept.site.partition.0 ballot kept.sheet) }
-    ensures changed { OnOk result (ChangesSheet place.now.topology place.now.site sheets.old sheets.new id (with_acceptance stamp.0 ballot (sheet_at place.now.topology place.now.site sheets.old id))) }
+    ensures accepts { IfOk result (λ accepted. let kept = sheet_at place.now.topology place.now.site sheets.old id
+        in accepted ≡ can_accept kept.site.partition.0 ballot kept.sheet) }
+    ensures changed { OnOk result (ChangesSheet place.now.topology place.now.site sheets.old sheets.new id
+        (with_acceptance stamp.0 ballot (sheet_at place.now.topology place.now.site sheets.old id))) }
 {
     open(sheets, place, id)?;
     match sheets.get_mut(&id) {
@@ -161,8 +174,10 @@ pub(crate) fn vote(
     rank: Rank,
     ballot: u64,
 ) -> Option<Stamp>
-    ensures decision { option_map (λ t. t.0) result ≡ decision_after_vote rank.0 ballot (sheet_at place.now.topology place.now.site sheets.old id) }
-    ensures changed { ChangesSheet place.now.topology place.now.site sheets.old sheets.new id (with_vote_of rank.0 ballot (sheet_at place.now.topology place.now.site sheets.old id)) }
+    ensures decision { option_map (λ t. t.0) result
+        ≡ decision_after_vote rank.0 ballot (sheet_at place.now.topology place.now.site sheets.old id) }
+    ensures changed { ChangesSheet place.now.topology place.now.site sheets.old sheets.new id
+        (with_vote_of rank.0 ballot (sheet_at place.now.topology place.now.site sheets.old id)) }
 {
     match sheets.get_mut(&id) {
         Some(sheet) => sheet.vote(rank, ballot),
@@ -177,7 +192,8 @@ pub(crate) fn stamp_at(
     id: CommandId,
     partition: PartitionId,
 ) -> Option<Stamp>
-    ensures { option_map (λ t. t.0) result ≡ stamp_of (sheet_at place.now.topology place.now.site sheets.now id).sheet partition.0 }
+    ensures { option_map (λ t. t.0) result ≡ stamp_of
+        (sheet_at place.now.topology place.now.site sheets.now id).sheet partition.0 }
 {
     match sheets.get(&id) {
         Some(sheet) => sheet.stamp(partition),
@@ -193,8 +209,10 @@ pub(crate) fn promise(
     id: CommandId,
     ballot: u64,
 ) -> Result<Option<RecoveryAnswer>, NoMemory>
-    ensures answer { IfOk result (λ told. told ≡ promise_by ballot (sheet_at place.now.topology place.now.site sheets.old id)) }
-    ensures changed { OnOk result (ChangesSheet place.now.topology place.now.site sheets.old sheets.new id (with_promise ballot (sheet_at place.now.topology place.now.site sheets.old id))) }
+    ensures answer { IfOk result (λ told. told ≡ promise_by ballot
+        (sheet_at place.now.topology place.now.site sheets.old id)) }
+    ensures changed { OnOk result (ChangesSheet place.now.topology place.now.site sheets.old sheets.new id
+        (with_promise ballot (sheet_at place.now.topology place.now.site sheets.old id))) }
 {
     open(sheets, place, id)?;
     match sheets.get_mut(&id) {
@@ -211,8 +229,12 @@ pub(crate) fn propose_for_recovery(
     ballot: u64,
     stamp: Stamp,
 ) -> Result<Option<RecoveryAnswer>, NoMemory>
-    ensures answer { IfOk result (λ told. let old = sheet_at place.now.topology place.now.site sheets.old command.id in told ≡ promise_by ballot (with_sheet (with_proposal stamp.0 Made.Recovery (with_command command old.sheet)) old)) }
-    ensures changed { OnOk result (let old = sheet_at place.now.topology place.now.site sheets.old command.id in ChangesSheet place.now.topology place.now.site sheets.old sheets.new command.id (with_promise ballot (with_sheet (with_proposal stamp.0 Made.Recovery (with_command command old.sheet)) old))) }
+    ensures answer { IfOk result (λ told. let old = sheet_at place.now.topology place.now.site sheets.old command.id
+        in told ≡ promise_by ballot (with_sheet (with_proposal stamp.0 Made.Recovery
+        (with_command command old.sheet)) old)) }
+    ensures changed { OnOk result (let old = sheet_at place.now.topology place.now.site sheets.old command.id
+        in ChangesSheet place.now.topology place.now.site sheets.old sheets.new command.id
+        (with_promise ballot (with_sheet (with_proposal stamp.0 Made.Recovery (with_command command old.sheet)) old))) }
 {
     let id = command.id;
     open(sheets, place, id)?;
@@ -229,7 +251,8 @@ pub(crate) fn propose_for_recovery(
 /// Tries the next ballot for a command, where it can be recovered, and gives it.
 pub(crate) fn recover(sheets: &mut Sheets, place: &Place, id: CommandId) -> Option<u64>
     ensures ballot { result ≡ ballot_by (sheet_at place.now.topology place.now.site sheets.old id) }
-    ensures changed { ChangesSheet place.now.topology place.now.site sheets.old sheets.new id (with_try (sheet_at place.now.topology place.now.site sheets.old id)) }
+    ensures changed { ChangesSheet place.now.topology place.now.site sheets.old sheets.new id
+        (with_try (sheet_at place.now.topology place.now.site sheets.old id)) }
 {
     match sheets.get_mut(&id) {
         Some(sheet) => sheet.recover(),
@@ -245,8 +268,10 @@ pub(crate) fn answer(
     answer: RecoveryAnswer,
     ballot: u64,
 ) -> Option<Stamp>
-    ensures choice { option_map (λ t. t.0) result ≡ choice_after_answer answer ballot (sheet_at place.now.topology place.now.site sheets.old id) }
-    ensures changed { ChangesSheet place.now.topology place.now.site sheets.old sheets.new id (with_answer_of answer ballot (sheet_at place.now.topology place.now.site sheets.old id)) }
+    ensures choice { option_map (λ t. t.0) result ≡ choice_after_answer answer ballot
+        (sheet_at place.now.topology place.now.site sheets.old id) }
+    ensures changed { ChangesSheet place.now.topology place.now.site sheets.old sheets.new id
+        (with_answer_of answer ballot (sheet_at place.now.topology place.now.site sheets.old id)) }
 {
     match sheets.get_mut(&id) {
         Some(sheet) => sheet.answer(answer, ballot),
@@ -264,8 +289,10 @@ pub(crate) fn learn(
 ) -> Result<Option<Stamp>, NoMemory>
     requires some { 1 ≤ partition.0 }
     requires few { partition.0 ≤ 4 }
-    ensures last { IfOk result (λ last. option_map (λ t. t.0) last ≡ final_after_learning partition.0 stamp.0 (sheet_at place.now.topology place.now.site sheets.old id)) }
-    ensures changed { OnOk result (ChangesSheet place.now.topology place.now.site sheets.old sheets.new id (with_known partition.0 stamp.0 (sheet_at place.now.topology place.now.site sheets.old id))) }
+    ensures last { IfOk result (λ last. option_map (λ t. t.0) last
+        ≡ final_after_learning partition.0 stamp.0 (sheet_at place.now.topology place.now.site sheets.old id)) }
+    ensures changed { OnOk result (ChangesSheet place.now.topology place.now.site sheets.old sheets.new id
+        (with_known partition.0 stamp.0 (sheet_at place.now.topology place.now.site sheets.old id))) }
 {
     open(sheets, place, id)?;
     match sheets.get_mut(&id) {

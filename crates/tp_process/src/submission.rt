@@ -20,8 +20,12 @@ impl Process {
     pub(crate) fn on_submit(&mut self, command: &Command) -> Result<Outputs, NoMemory>
         requires { is_command_at self.old.place.topology self.old.place.site.partition.0 command.now ≡ true }
         ensures identity { identity self.new ≡ identity self.old }
-        ensures outputs { IfOk result (λ outputs. (s : ProcessState) → IsState self.old s → outputs ≡ (with_room s (on_submit (ring_rule self.old.place.topology) self.old.place.site command.now s)).1) }
-        ensures state { OnOk result ((s : ProcessState) → IsState self.old s → IsState self.new (with_room s (on_submit (ring_rule self.old.place.topology) self.old.place.site command.now s)).0) }
+        ensures outputs { IfOk result (λ outputs. (s : ProcessState) → IsState self.old s
+            → outputs
+            ≡ (with_room s (on_submit (ring_rule self.old.place.topology) self.old.place.site command.now s)).1) }
+        ensures state { OnOk result ((s : ProcessState) → IsState self.old s
+            → IsState self.new (with_room s (on_submit
+            (ring_rule self.old.place.topology) self.old.place.site command.now s)).0) }
     {
         if !self.takes_submission(command) {
             return Ok(self.nothing());
@@ -42,8 +46,13 @@ impl Process {
     ) -> Result<Outputs, NoMemory>
         requires { is_command_at self.old.place.topology self.old.place.site.partition.0 command.now ≡ true }
         ensures identity { identity self.new ≡ identity self.old }
-        ensures outputs { IfOk result (λ outputs. (s : ProcessState) → IsState self.old s → floor.0 < the_limit → outputs ≡ (with_room s (on_propose (ring_rule self.old.place.topology) self.old.place.site from command.now floor.0 s)).1) }
-        ensures state { OnOk result ((s : ProcessState) → IsState self.old s → floor.0 < the_limit → IsState self.new (with_room s (on_propose (ring_rule self.old.place.topology) self.old.place.site from command.now floor.0 s)).0) }
+        ensures outputs { IfOk result (λ outputs. (s : ProcessState) → IsState self.old s → floor.0 < the_limit
+            → outputs
+            ≡ (with_room s (on_propose (ring_rule self.old.place.topology) self.old.place.site from command.now floor.0
+            s)).1) }
+        ensures state { OnOk result ((s : ProcessState) → IsState self.old s → floor.0 < the_limit
+            → IsState self.new (with_room s (on_propose
+            (ring_rule self.old.place.topology) self.old.place.site from command.now floor.0 s)).0) }
     {
         if STAMP_LIMIT <= floor.0 || !self.takes_proposal(command) {
             return Ok(self.nothing());
@@ -60,7 +69,8 @@ impl Process {
         requires { is_command_at self.old.place.topology self.old.place.site.partition.0 command.now ≡ true }
         ensures identity { identity self.new ≡ identity self.old }
         ensures outputs { IfOk result (λ outputs. outputs ≡ []) }
-        ensures state { OnOk result ((s : ProcessState) → IsState self.old s → IsState self.new (on_payload command.now s).0) }
+        ensures state { OnOk result ((s : ProcessState) → IsState self.old s
+            → IsState self.new (on_payload command.now s).0) }
     {
         keep(&mut self.sheets, &self.place, command.copy()?)?;
         Ok(self.nothing())
@@ -70,7 +80,8 @@ impl Process {
     pub(crate) fn on_bump(&mut self, stamp: Stamp) -> Outputs
         ensures identity { identity self.new ≡ identity self.old }
         ensures outputs { result ≡ [] }
-        ensures state { (s : ProcessState) → IsState self.old s → stamp.0 < the_limit → IsState self.new (on_bump stamp.0 s).0 }
+        ensures state { (s : ProcessState) → IsState self.old s → stamp.0 < the_limit
+            → IsState self.new (on_bump stamp.0 s).0 }
     {
         self.bump(stamp);
         self.nothing()
@@ -78,7 +89,8 @@ impl Process {
 
     fn takes_submission(&self, command: &Command) -> bool
         ensures value { result ≡ takes_submission self.now command.now }
-        ensures home { result ≡ true → (1 ≤ command.now.home.0) × (command.now.home.0 ≤ self.now.place.topology.replicas) }
+        ensures home { result ≡ true
+            → (1 ≤ command.now.home.0) × (command.now.home.0 ≤ self.now.place.topology.replicas) }
     {
         command.home == self.place.rank() && self.takes_proposal(command)
     }
@@ -92,7 +104,10 @@ impl Process {
     /// What the home sends of a command that is submitted.
     fn submission(&self, command: &Command, stamp: Stamp) -> Result<Outputs, NoMemory>
         requires { (1 ≤ command.now.home.0) × (command.now.home.0 ≤ self.now.place.topology.replicas) }
-        ensures { IfOk result (λ outputs. outputs ≡ proposals (ring_rule self.now.place.topology) self.now.place.site command.now stamp.0 ++ bumps self.now.place.topology self.now.place.site (kept_or command.now (sheet_of self.now command.now.id).sheet) stamp.0) }
+        ensures { IfOk result (λ outputs. outputs ≡ proposals
+            (ring_rule self.now.place.topology) self.now.place.site command.now stamp.0
+            ++ bumps self.now.place.topology self.now.place.site
+            (kept_or command.now (sheet_of self.now command.now.id).sheet) stamp.0) }
     {
         let mut outputs = self.room(usize::from(self.place.topology.replicas()))?;
         ask_for_proposals(&mut outputs, &self.place, command, stamp)?;
@@ -107,7 +122,10 @@ impl Process {
         command: &Command,
         stamp: Stamp,
     ) -> Result<Outputs, NoMemory>
-        ensures { IfOk result (λ outputs. outputs ≡ message (ActorName.Process self.now.place.site) from (Body.MProposeAck command.now.id stamp) ∷ bumps self.now.place.topology self.now.place.site (kept_or command.now (sheet_of self.now command.now.id).sheet) stamp.0) }
+        ensures { IfOk result (λ outputs. outputs ≡ message (ActorName.Process self.now.place.site) from
+            (Body.MProposeAck command.now.id stamp)
+            ∷ bumps self.now.place.topology self.now.place.site
+            (kept_or command.now (sheet_of self.now command.now.id).sheet) stamp.0) }
     {
         let mut outputs = self.room(1)?;
         outputs.add(Message {
@@ -131,7 +149,8 @@ impl Process {
         command: &Command,
         stamp: Stamp,
     ) -> Result<(), NoMemory>
-        ensures { OnOk result (outputs.new ≡ outputs.old ++ bumps self.now.place.topology self.now.place.site (kept_or command.now (sheet_of self.now command.now.id).sheet) stamp.0) }
+        ensures { OnOk result (outputs.new ≡ outputs.old ++ bumps self.now.place.topology self.now.place.site
+            (kept_or command.now (sheet_of self.now command.now.id).sheet) stamp.0) }
     {
         let kept = command_or(&self.sheets, &self.place, command);
         let names = counterparts(self.alloc, &self.place, kept)?;
@@ -148,7 +167,8 @@ fn ask_for_proposals(
     stamp: Stamp,
 ) -> Result<(), NoMemory>
     requires { (1 ≤ command.now.home.0) × (command.now.home.0 ≤ place.now.topology.replicas) }
-    ensures { OnOk result (outputs.new ≡ outputs.old ++ proposals (ring_rule place.now.topology) place.now.site command.now stamp.0) }
+    ensures { OnOk result (outputs.new ≡ outputs.old ++ proposals
+        (ring_rule place.now.topology) place.now.site command.now stamp.0) }
 {
     for number in 1..place.topology.replicas() + 1 {
         let rank = Rank(number);
@@ -171,7 +191,8 @@ fn ask_for_proposals(
 fn asking(place: &Place, command: &Command, stamp: Stamp, rank: Rank) -> Result<Body, NoMemory>
     requires home { (1 ≤ command.now.home.0) × (command.now.home.0 ≤ place.now.topology.replicas) }
     requires rank { (1 ≤ rank.0) × (rank.0 ≤ place.now.topology.replicas) }
-    ensures { IfOk result (λ body. body ≡ cond (in_ring place.now.topology command.now.home.0 rank.0) (Body.MPropose command.now stamp) (Body.MPayload command.now)) }
+    ensures { IfOk result (λ body. body ≡ cond (in_ring place.now.topology command.now.home.0 rank.0)
+        (Body.MPropose command.now stamp) (Body.MPayload command.now)) }
 {
     let command = command.copy()?;
     if place.topology.in_fast_quorum(command.home, rank) {

@@ -42,7 +42,8 @@ impl Book {
         requires some { lo < hi }
         requires attached { AreTold lo hi attached.now }
         ensures ranks { replicas_of self.new ≡ replicas_of self.old }
-        ensures told { OnOk result ((told : List Telling) (committed : List CommandId) → IsBook self.old told committed → IsBook self.new (record { rank = rank.0; lo = lo; hi = hi; attached = attached.now } ∷ told) committed) }
+        ensures told { OnOk result ((told : List Telling) (committed : List CommandId) → IsBook self.old told committed
+            → IsBook self.new (record { rank = rank.0; lo = lo; hi = hi; attached = attached.now } ∷ told) committed) }
     {
         let page = &mut self.pages[usize::from(rank.0) - 1];
         page.add(Range { lo, hi }, attached, &self.committed)?;
@@ -52,7 +53,8 @@ impl Book {
     /// Takes the commit of a command.
     pub fn committed(&mut self, id: CommandId) -> Result<(), NoMemory>
         ensures ranks { replicas_of self.new ≡ replicas_of self.old }
-        ensures committed { OnOk result ((told : List Telling) (committed : List CommandId) → IsBook self.old told committed → IsBook self.new told (id ∷ committed)) }
+        ensures committed { OnOk result ((told : List Telling) (committed : List CommandId)
+            → IsBook self.old told committed → IsBook self.new told (id ∷ committed)) }
     {
         self.committed.insert(id)?;
         commit_each(&mut self.pages, id);
@@ -63,8 +65,10 @@ impl Book {
     pub fn front(&self, rank: Rank) -> u64
         requires from { 1 ≤ rank.0 }
         requires to { rank.0 ≤ replicas_of self.now }
-        ensures counted { (told : List Telling) (committed : List CommandId) → IsBook self.now told committed → all_up_to (is_counted told committed rank.0) result ≡ true }
-        ensures stopped { (told : List Telling) (committed : List CommandId) → IsBook self.now told committed → is_counted told committed rank.0 (result + 1) ≡ false }
+        ensures counted { (told : List Telling) (committed : List CommandId) → IsBook self.now told committed
+            → all_up_to (is_counted told committed rank.0) result ≡ true }
+        ensures stopped { (told : List Telling) (committed : List CommandId) → IsBook self.now told committed
+            → is_counted told committed rank.0 (result + 1) ≡ false }
     {
         let page = &self.pages[usize::from(rank.0) - 1];
         page.front()
@@ -74,7 +78,8 @@ impl Book {
 /// Takes the commit of a command at the pages of all ranks.
 fn commit_each(pages: &mut Vec<Page>, id: CommandId)
     ensures ranks { length pages.new.items ≡ length pages.old.items }
-    ensures each { (i : ℕ) (page' : Page) → slice_get pages.new.items i ≡ Some page' → (page : Page) × (slice_get pages.old.items i ≡ Some page) × Commits id page page' }
+    ensures each { (i : ℕ) (page' : Page) → slice_get pages.new.items i ≡ Some page'
+        → (page : Page) × (slice_get pages.old.items i ≡ Some page) × Commits id page page' }
 {
     for i in 0..pages.len() {
         pages[i].commit(id);

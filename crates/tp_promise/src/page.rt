@@ -62,7 +62,11 @@ impl Page {
     ) -> Result<(), NoMemory>
         requires some { told.lo < told.hi }
         requires attached { AreTold told.lo told.hi attached.now }
-        ensures { OnOk result ((before : List Telling) (ids : List CommandId) (rank : ℕ) → ((id : CommandId) → has same_id id committed.now.keys ≡ has same_id id ids) → IsPage self.old before ids rank → IsPage self.new (record { rank = rank; lo = told.lo; hi = told.hi; attached = attached.now } ∷ before) ids rank) }
+        ensures { OnOk result ((before : List Telling) (ids : List CommandId) (rank : ℕ)
+            → ((id : CommandId) → has same_id id committed.now.keys ≡ has same_id id ids)
+            → IsPage self.old before ids rank
+            → IsPage self.new (record { rank = rank; lo = told.lo; hi = told.hi; attached = attached.now }
+            ∷ before) ids rank) }
     {
         let waiting = with_waiting(
             self.alloc,
@@ -81,7 +85,8 @@ impl Page {
 
     /// Takes a commit of a command.
     pub fn commit(&mut self, id: CommandId)
-        ensures { (told : List Telling) (ids : List CommandId) (rank : ℕ) → IsPage self.old told ids rank → IsPage self.new told (id ∷ ids) rank }
+        ensures { (told : List Telling) (ids : List CommandId) (rank : ℕ) → IsPage self.old told ids rank
+            → IsPage self.new told (id ∷ ids) rank }
     {
         drop_id(&mut self.attached, id);
         self.front = advanced(self.front, &self.ranges, &self.attached);

@@ -16,7 +16,8 @@ pub(crate) fn with_waiting(
     ranges: &[Range],
     committed: &IndexSet<CommandId>,
 ) -> Result<Vec<Pair>, NoMemory>
-    ensures { IfOk result (λ all. all.items ≡ waiting.now ++ filter (waits front ranges.now committed.now.keys) told.now) }
+    ensures { IfOk result (λ all. all.items ≡ waiting.now
+        ++ filter (waits front ranges.now committed.now.keys) told.now) }
 {
     let mut all = Vec::from_slice(alloc, waiting)?;
     for pair in told {

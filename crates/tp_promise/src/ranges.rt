@@ -56,7 +56,8 @@ pub(crate) fn with_range(
     ranges: &[Range],
     added: Range,
 ) -> Result<Vec<Range>, NoMemory>
-    ensures numbers { IfOk result (λ all. (n : ℕ) → in_ranges all.items n ≡ (in_ranges ranges.now n || in_range added n)) }
+    ensures numbers { IfOk result (λ all. (n : ℕ)
+        → in_ranges all.items n ≡ (in_ranges ranges.now n || in_range added n)) }
     ensures apart { IfOk result (λ all. AreApart ranges.now → added.lo < added.hi → AreApart all.items) }
 {
     let mut before = Vec::new(alloc);

@@ -31,8 +31,10 @@ pub trait Actor: Drop {
         requires range { IsInRange message.now }
         ensures identity { identity_of self.new ≡ identity_of self.old }
         ensures spent { is_spent self.new ≡ is_err result }
-        ensures outputs { IfOk result (λ outputs. (acts : List Act) → stands self.old acts → outputs ≡ outputs_of (identity_of self.old) acts (Took message.now)) }
-        ensures stands { OnOk result ((acts : List Act) → stands self.old acts → stands self.new (Took message.now ∷ acts)) };
+        ensures outputs { IfOk result (λ outputs. (acts : List Act) → stands self.old acts
+            → outputs ≡ outputs_of (identity_of self.old) acts (Took message.now)) }
+        ensures stands { OnOk result ((acts : List Act) → stands self.old acts
+            → stands self.new (Took message.now ∷ acts)) };
 
     /// Makes a step of its own, and gives the messages that it sends.
     fn fire(&mut self, inner: Inner) -> Result<Outputs, NoMemory>
@@ -40,7 +42,8 @@ pub trait Actor: Drop {
         requires may { (acts : List Act) × stands self.old acts × MayMake (identity_of self.old) acts inner }
         ensures identity { identity_of self.new ≡ identity_of self.old }
         ensures spent { is_spent self.new ≡ is_err result }
-        ensures outputs { IfOk result (λ outputs. (acts : List Act) → stands self.old acts → outputs ≡ outputs_of (identity_of self.old) acts (Did inner)) }
+        ensures outputs { IfOk result (λ outputs. (acts : List Act) → stands self.old acts
+            → outputs ≡ outputs_of (identity_of self.old) acts (Did inner)) }
         ensures stands { OnOk result ((acts : List Act) → stands self.old acts → stands self.new (Did inner ∷ acts)) };
 
     /// The step of its own that it may make now.

@@ -44,7 +44,8 @@ fn enter_plan(draft: &mut Draft, line: PlanLine) -> Result<bool, Refusal>
 
 fn enter_crash(draft: &mut Draft, words: &mut Words) -> Result<bool, Refusal>
     requires { length draft.old.script.homes ≤ 16 }
-    ensures read { Gives (λ more. (more, draft.new)) result (into_plan draft.old (crash_line draft.old.script words.old)) }
+    ensures read { Gives (λ more. (more, draft.new)) result
+        (into_plan draft.old (crash_line draft.old.script words.old)) }
     ensures few { OnOk result (length draft.new.script.homes ≤ 16) }
 {
     let line = read_crash(&draft.script, words)?;
@@ -53,7 +54,8 @@ fn enter_crash(draft: &mut Draft, words: &mut Words) -> Result<bool, Refusal>
 
 fn enter_recover(draft: &mut Draft, words: &mut Words) -> Result<bool, Refusal>
     requires { length draft.old.script.homes ≤ 16 }
-    ensures read { Gives (λ more. (more, draft.new)) result (into_plan draft.old (recover_line draft.old.script words.old)) }
+    ensures read { Gives (λ more. (more, draft.new)) result
+        (into_plan draft.old (recover_line draft.old.script words.old)) }
     ensures few { OnOk result (length draft.new.script.homes ≤ 16) }
 {
     let line = read_recover(&draft.script, words)?;
@@ -62,7 +64,8 @@ fn enter_recover(draft: &mut Draft, words: &mut Words) -> Result<bool, Refusal>
 
 fn enter_drop(draft: &mut Draft, words: &mut Words) -> Result<bool, Refusal>
     requires { length draft.old.script.homes ≤ 16 }
-    ensures read { Gives (λ more. (more, draft.new)) result (into_plan draft.old (drop_line draft.old.script words.old)) }
+    ensures read { Gives (λ more. (more, draft.new)) result
+        (into_plan draft.old (drop_line draft.old.script words.old)) }
     ensures few { OnOk result (length draft.new.script.homes ≤ 16) }
 {
     let line = read_drop(&draft.script, words)?;
@@ -71,7 +74,8 @@ fn enter_drop(draft: &mut Draft, words: &mut Words) -> Result<bool, Refusal>
 
 fn enter_repeat(draft: &mut Draft, words: &mut Words) -> Result<bool, Refusal>
     requires { length draft.old.script.homes ≤ 16 }
-    ensures read { Gives (λ more. (more, draft.new)) result (into_plan draft.old (repeat_line draft.old.script words.old)) }
+    ensures read { Gives (λ more. (more, draft.new)) result
+        (into_plan draft.old (repeat_line draft.old.script words.old)) }
     ensures few { OnOk result (length draft.new.script.homes ≤ 16) }
 {
     let line = read_repeat(&draft.script, words)?;

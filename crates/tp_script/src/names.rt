@@ -54,7 +54,8 @@ fn read_site(topology: &Topology, word: &[u8]) -> Result<Site, Refusal>
 }
 
 fn find_id(commands: &[Command], session: u32, number: u32) -> Option<CommandId>
-    ensures { result ≡ (if is_there commands.now (id_at (session, number)) then Some (id_at (session, number)) else None) }
+    ensures { result ≡ (if is_there commands.now (id_at (session, number))
+        then Some (id_at (session, number)) else None) }
 {
     for command in commands {
         if u32::from(command.id.session.0) == session && command.id.number == number {

@@ -132,7 +132,8 @@ fn put_fate(
     to: ActorName,
     ordinal: u32,
 ) -> Result<(), NoMemory>
-    ensures { OnOk result (text.new ≡ with_words text.old (name.now ∷ actor_word from ∷ actor_word to ∷ decimal ordinal ∷ [])) }
+    ensures { OnOk result (text.new ≡ with_words text.old
+        (name.now ∷ actor_word from ∷ actor_word to ∷ decimal ordinal ∷ [])) }
 {
     text.word(name)?;
     text.actor(from)?;

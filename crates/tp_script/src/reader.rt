@@ -36,7 +36,8 @@ fn read_topology(words: &mut Words) -> Result<Topology, Refusal>
 // The line `shape`.
 #[tactic(auto, unfolding(tp_text::specs::Framing::line_at))]
 fn take_shape(lines: &mut Lines) -> Result<Topology, ScriptError>
-    ensures read { Reads (λ t. (t, lines_of lines.new.left)) result (line_at (lines.old.count + 1) Missing shape_begun (lines_of lines.old.left)) }
+    ensures read { Reads (λ t. (t, lines_of lines.new.left)) result
+        (line_at (lines.old.count + 1) Missing shape_begun (lines_of lines.old.left)) }
     ensures count { OnOk result (lines.new.count ≡ lines.old.count + 1) }
     ensures all { OnOk result (all_lines lines.new ≡ all_lines lines.old) }
 {
@@ -55,7 +56,8 @@ fn take_shape(lines: &mut Lines) -> Result<Topology, ScriptError>
 // The lines behind the shape.
 #[tactic(auto, unfolding(crate::specs::Meaning::script_from))]
 fn take_body(alloc: Global, lines: &mut Lines, topology: Topology) -> Result<Script, ScriptError>
-    ensures read { Reads (λ s. (s, lines_of lines.new.left)) result (script_from (lines.old.count + 1) topology (lines_of lines.old.left)) }
+    ensures read { Reads (λ s. (s, lines_of lines.new.left)) result
+        (script_from (lines.old.count + 1) topology (lines_of lines.old.left)) }
     ensures all { OnOk result (all_lines lines.new ≡ all_lines lines.old) }
 {
     let mut draft = Draft {
@@ -75,7 +77,8 @@ fn take_body(alloc: Global, lines: &mut Lines, topology: Topology) -> Result<Scr
 // What a script's lines say.
 #[tactic(auto, unfolding(crate::specs::Meaning::script_at))]
 fn read_all(alloc: Global, lines: &mut Lines) -> Result<Script, ScriptError>
-    ensures exact { Reads (λ s. (s, lines_of lines.new.left)) result (script_at (lines.old.count + 1) (lines_of lines.old.left)) }
+    ensures exact { Reads (λ s. (s, lines_of lines.new.left)) result
+        (script_at (lines.old.count + 1) (lines_of lines.old.left)) }
     ensures all { OnOk result (all_lines lines.new ≡ all_lines lines.old) }
 {
     let causes = HeaderCauses {
@@ -92,9 +95,11 @@ pub fn read_script(alloc: Global, lines: &mut Lines) -> Result<Script, ScriptErr
     // What is read is an accepted script, and its text stood there.
     ensures found { IfOk result (λ s. IsAccepted s × (lines.old.left ≡ text_of s ++ lines.new.left)) }
     // The text of an accepted script is read as it, unless memory runs out.
-    ensures only { (s : ScriptValue) (rest : List ℕ) → IsAccepted s → lines.old.left ≡ text_of s ++ rest → IsReadAs s rest lines.new.left result }
+    ensures only { (s : ScriptValue) (rest : List ℕ) → IsAccepted s → lines.old.left ≡ text_of s ++ rest
+        → IsReadAs s rest lines.new.left result }
     // A fault is the first one of the first faulty line.
-    ensures exact { Reads (λ s. (s, lines_of lines.new.left)) result (script_at (lines.old.count + 1) (lines_of lines.old.left)) }
+    ensures exact { Reads (λ s. (s, lines_of lines.new.left)) result
+        (script_at (lines.old.count + 1) (lines_of lines.old.left)) }
     // Its lines were counted.
     ensures counted { IfOk result (λ s. lines.new.count ≡ lines.old.count + length (script_lines s)) }
 {

@@ -10,7 +10,9 @@ use tp_text::Words;
 use tp_topology::Topology;
 
 fn topology_of(partitions: u32, replicas: u32, failures: u32) -> Option<Topology>
-    ensures { MatchOption result (is_shape partitions replicas failures ≡ false) (λ t. (is_shape partitions replicas failures ≡ true) × (t ≡ record { partitions = partitions; replicas = replicas; failures = failures })) }
+    ensures { MatchOption result (is_shape partitions replicas failures ≡ false)
+        (λ t. (is_shape partitions replicas failures ≡ true)
+        × (t ≡ record { partitions = partitions; replicas = replicas; failures = failures })) }
 {
     if partitions > 4 || replicas > 7 || failures > 3 {
         return None;

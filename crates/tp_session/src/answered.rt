@@ -42,7 +42,8 @@ pub fn is_awaited(
 ) -> bool
     requires from { 1 ≤ q.0 }
     requires to { q.0 ≤ topology.now.partitions }
-    ensures { result ≡ is_awaited topology.now q.0 answers.now (take topology.now.partitions parts.now) (Some command.now) }
+    ensures { result ≡ is_awaited topology.now q.0 answers.now (take topology.now.partitions parts.now)
+        (Some command.now) }
 {
     let partitions = topology.partitions();
     accesses(command, partitions, q)
@@ -57,7 +58,8 @@ pub fn reply_of(
     command: &Command,
     parts: &Parts,
 ) -> Result<Option<Answers>, NoMemory>
-    ensures { IfOk result (λ reply. reply ≡ merged_reply topology.now (take topology.now.partitions parts.now) (Some command.now)) }
+    ensures { IfOk result (λ reply. reply ≡ merged_reply topology.now (take topology.now.partitions parts.now)
+        (Some command.now)) }
 {
     if !is_whole(topology, parts, command) {
         return Ok(None);

@@ -44,7 +44,8 @@ impl Session {
         commands: Commands,
     ) -> Session
         requires few { length commands < 2 ^ 32 }
-        ensures identity { identity result ≡ SessionOf topology.now (record { session = id; home = home.0; window = 1; commands = commands }) }
+        ensures identity { identity result ≡ SessionOf topology.now
+            (record { session = id; home = home.0; window = 1; commands = commands }) }
         ensures unspent { result.spent ≡ false }
         ensures stands { Stands result [] }
     {
@@ -65,7 +66,9 @@ impl Session {
 
     /// The reply to the command with this number, None where it is not answered.
     pub fn reply(&self, n: u32) -> Result<Option<Answers>, NoMemory>
-        ensures { IfOk result (λ answers. (acts : List Act) → Stands self.now acts → answers ≡ reply self.now.topology (client self.now) (state_after self.now.topology (client self.now) acts) n) }
+        ensures { IfOk result (λ answers. (acts : List Act) → Stands self.now acts
+            → answers ≡ reply self.now.topology (client self.now)
+            (state_after self.now.topology (client self.now) acts) n) }
     {
         let Some(command) = self.command(n) else {
             return Ok(None);
@@ -108,7 +111,9 @@ impl Session {
     fn open(&mut self, n: u32) -> Result<(), NoMemory>
         ensures identity { OnOk result (identity self.new ≡ identity self.old) }
         ensures kept { OnOk result (self.new.kept.items ≡ self.old.kept.items ++ replicate 4 None ∷ []) }
-        ensures unanswered { OnOk result (self.new.unanswered ≡ cond (is_whole self.old.topology (table self.new n) (nth self.old.commands n)) self.old.unanswered (self.old.unanswered + 1)) }
+        ensures unanswered { OnOk result (self.new.unanswered
+            ≡ cond (is_whole self.old.topology (table self.new n) (nth self.old.commands n)) self.old.unanswered
+            (self.old.unanswered + 1)) }
         ensures same { OnErr result (identity self.new ≡ identity self.old) }
     {
         self.kept.push(Parts::new())?;
@@ -120,8 +125,10 @@ impl Session {
 
     fn submit(&mut self, n: u32) -> Result<Outputs, NoMemory>
         ensures identity { identity self.new ≡ identity self.old }
-        ensures outputs { IfOk result (λ outputs. outputs ≡ submissions self.old.topology (client self.old) (nth self.old.commands n)) }
-        ensures state { OnOk result ((state : SessionState) → IsState self.old state → n ≡ state.submitted + 1 → IsState self.new (on_submit self.old.topology (client self.old) n state).0) }
+        ensures outputs { IfOk result (λ outputs. outputs
+            ≡ submissions self.old.topology (client self.old) (nth self.old.commands n)) }
+        ensures state { OnOk result ((state : SessionState) → IsState self.old state → n ≡ state.submitted + 1
+            → IsState self.new (on_submit self.old.topology (client self.old) n state).0) }
     {
         let outputs = match self.command(n) {
             Some(command) => {
@@ -136,7 +143,9 @@ impl Session {
     fn awaits(&self, id: CommandId, q: PartitionId, answers: &Answers) -> bool
         requires from { 1 ≤ q.0 }
         requires to { q.0 ≤ self.now.topology.partitions }
-        ensures { result ≡ ((id.session.0 == self.now.id.0) && nat_le id.number (length self.now.kept.items) && is_awaited self.now.topology q.0 answers.now (table self.now id.number) (nth self.now.commands id.number)) }
+        ensures { result ≡ ((id.session.0 == self.now.id.0) && nat_le id.number (length self.now.kept.items)
+            && is_awaited self.now.topology q.0 answers.now (table self.now id.number)
+            (nth self.now.commands id.number)) }
     {
         if id.session != self.id {
             return false;
@@ -155,8 +164,11 @@ impl Session {
         requires to { q.0 ≤ 4 }
         requires first { kept_at (parts_at self.old.kept.items n) q.0 ≡ None }
         ensures identity { identity self.new ≡ identity self.old }
-        ensures kept { self.new.kept.items ≡ slice_set self.old.kept.items (n - 1) (with_nth (parts_at self.old.kept.items n) q.0 (Some answers)) }
-        ensures unanswered { self.new.unanswered ≡ cond (is_whole self.old.topology (table self.new n) (nth self.old.commands n)) (self.old.unanswered - 1) self.old.unanswered }
+        ensures kept { self.new.kept.items ≡ slice_set self.old.kept.items (n - 1)
+            (with_nth (parts_at self.old.kept.items n) q.0 (Some answers)) }
+        ensures unanswered { self.new.unanswered ≡ cond
+            (is_whole self.old.topology (table self.new n) (nth self.old.commands n))
+            (self.old.unanswered - 1) self.old.unanswered }
     {
         self.kept[n as usize - 1].put(q, answers);
         if self.is_answered(n) {
@@ -169,7 +181,8 @@ impl Session {
         requires to { q.0 ≤ self.old.topology.partitions }
         requires few { q.0 ≤ 4 }
         ensures identity { identity self.new ≡ identity self.old }
-        ensures state { OnOk result ((state : SessionState) → IsState self.old state → IsState self.new (on_result self.old.topology (client self.old) id q.0 answers.now state).0) }
+        ensures state { OnOk result ((state : SessionState) → IsState self.old state
+            → IsState self.new (on_result self.old.topology (client self.old) id q.0 answers.now state).0) }
     {
         if self.awaits(id, q, answers) {
             let answers = answers.copy()?;
@@ -180,7 +193,8 @@ impl Session {
 
     fn take(&mut self, message: &Message) -> Result<(), NoMemory>
         ensures identity { identity self.new ≡ identity self.old }
-        ensures state { OnOk result ((state : SessionState) → IsState self.old state → IsInRange message.now → IsState self.new (on_message self.old.topology (client self.old) message.now state).0) }
+        ensures state { OnOk result ((state : SessionState) → IsState self.old state → IsInRange message.now
+            → IsState self.new (on_message self.old.topology (client self.old) message.now state).0) }
     {
         if message.to != ActorName::Session(self.id) {
             return Ok(());

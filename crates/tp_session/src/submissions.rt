@@ -14,7 +14,8 @@ fn submission(
     p: PartitionId,
     command: &Command,
 ) -> Result<Message, NoMemory>
-    ensures { IfOk result (λ m. m ≡ message (ActorName.Session id) (ActorName.Process (site p.0 home.0)) (Body.MSubmit command.now)) }
+    ensures { IfOk result (λ m. m ≡ message (ActorName.Session id) (ActorName.Process (site p.0 home.0))
+        (Body.MSubmit command.now)) }
 {
     let site = Site {
         partition: p,
@@ -37,7 +38,8 @@ pub fn submissions(
     home: Rank,
     command: &Command,
 ) -> Result<Outputs, NoMemory>
-    ensures { IfOk result (λ outputs. outputs ≡ to_each (ActorName.Session id) (map (λ p. ActorName.Process (site p home.0)) (accessed topology.now command.now)) (Body.MSubmit command.now)) }
+    ensures { IfOk result (λ outputs. outputs ≡ to_each (ActorName.Session id)
+        (map (λ p. ActorName.Process (site p home.0)) (accessed topology.now command.now)) (Body.MSubmit command.now)) }
 {
     let mut outputs = Sequence::new(alloc);
     let partitions = topology.partitions();

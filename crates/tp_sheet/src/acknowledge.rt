@@ -37,8 +37,10 @@ impl Sheet {
     fn count_proposal(&mut self, rank: Rank, stamp: Stamp) -> bool
         requires some { 1 ≤ rank.0 }
         requires few { rank.0 ≤ self.old.shape.replicas }
-        ensures counts { result ≡ can_acknowledge (ring_rule self.old.shape) self.old.site.partition.0 self.old.site.rank.0 rank.0 self.old.sheet }
-        ensures counted { self.new ≡ with_sheet (cond result (acknowledged rank.0 stamp.0 self.old.sheet) self.old.sheet) self.old }
+        ensures counts { result ≡ can_acknowledge (ring_rule self.old.shape)
+            self.old.site.partition.0 self.old.site.rank.0 rank.0 self.old.sheet }
+        ensures counted { self.new ≡ with_sheet (cond result
+            (acknowledged rank.0 stamp.0 self.old.sheet) self.old.sheet) self.old }
     {
         self.is_gathering(rank) && self.gather(rank, stamp)
     }

@@ -48,7 +48,8 @@ impl Sheet {
 
 /// The greatest of the stamps of a command's partitions, where each is known.
 fn greatest_known(command: &Command, topology: &Topology, known: &Known) -> Option<Stamp>
-    ensures { option_map (λ t. t.0) result ≡ greatest_of_known (map (λ q. kept_at (take topology.now.partitions known.now) q) (accessed topology.now command.now)) }
+    ensures { option_map (λ t. t.0) result ≡ greatest_of_known
+        (map (λ q. kept_at (take topology.now.partitions known.now) q) (accessed topology.now command.now)) }
 {
     let mut greatest = 0;
     for partition in 1..topology.partitions() + 1 {

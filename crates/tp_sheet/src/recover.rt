@@ -90,7 +90,8 @@ impl Sheet {
     }
 
     fn can_recover(&self) -> bool
-        ensures { result ≡ (is_some self.now.sheet.command && is_none (stamp_of self.now.sheet self.now.site.partition.0) && has_next self.now.sheet) }
+        ensures { result ≡ (is_some self.now.sheet.command
+            && is_none (stamp_of self.now.sheet self.now.site.partition.0) && has_next self.now.sheet) }
     {
         self.command.is_some()
             && !self.knows(self.site.partition)
@@ -100,7 +101,8 @@ impl Sheet {
 
     fn next_ballot(&self) -> u64
         requires { has_next self.now.sheet ≡ true }
-        ensures { result ≡ next_ballot_of self.now.shape self.now.site.rank.0 self.now.sheet.ballot self.now.sheet.tried }
+        ensures { result
+            ≡ next_ballot_of self.now.shape self.now.site.rank.0 self.now.sheet.ballot self.now.sheet.tried }
     {
         next_ballot(
             &self.topology,

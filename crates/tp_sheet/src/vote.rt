@@ -33,8 +33,11 @@ impl Sheet {
     fn count_vote(&mut self, rank: Rank, ballot: u64) -> Option<Stamp>
         requires some { 1 ≤ rank.0 }
         requires few { rank.0 ≤ self.old.shape.replicas }
-        ensures decides { option_map (λ t. t.0) result ≡ cond (is_put_at ballot self.old.sheet.put) (stamp_decided self.old.shape (with_vote rank.0 self.old.sheet)) None }
-        ensures counted { self.new ≡ with_sheet (cond (is_put_at ballot self.old.sheet.put) (with_vote rank.0 self.old.sheet) self.old.sheet) self.old }
+        ensures decides { option_map (λ t. t.0) result
+            ≡ cond (is_put_at ballot self.old.sheet.put)
+            (stamp_decided self.old.shape (with_vote rank.0 self.old.sheet)) None }
+        ensures counted { self.new ≡ with_sheet (cond (is_put_at ballot self.old.sheet.put)
+            (with_vote rank.0 self.old.sheet) self.old.sheet) self.old }
     {
         self.proposer.vote(rank, ballot)
     }

@@ -12,8 +12,10 @@ use tp_topology::Topology;
 /// ranks.
 pub fn threshold(book: &Book, topology: &Topology) -> u64
     requires { replicas_of book.now ≡ topology.now.replicas }
-    ensures stable { (told : List Telling) (committed : List CommandId) → IsBook book.now told committed → is_stable_for topology.now told committed result ≡ true }
-    ensures greatest { (told : List Telling) (committed : List CommandId) (stamp : ℕ) → IsBook book.now told committed → is_stable_for topology.now told committed stamp ≡ true → stamp ≤ result }
+    ensures stable { (told : List Telling) (committed : List CommandId) → IsBook book.now told committed
+        → is_stable_for topology.now told committed result ≡ true }
+    ensures greatest { (told : List Telling) (committed : List CommandId) (stamp : ℕ) → IsBook book.now told committed
+        → is_stable_for topology.now told committed stamp ≡ true → stamp ≤ result }
 {
     let mut top = 0;
     for k in 0..topology.replicas() {
@@ -25,7 +27,8 @@ pub fn threshold(book: &Book, topology: &Topology) -> u64
 /// Whether for some majority of the ranks each number up to a stamp is counted.
 pub fn is_stable(book: &Book, topology: &Topology, stamp: Stamp) -> bool
     requires { replicas_of book.now ≡ topology.now.replicas }
-    ensures { (told : List Telling) (committed : List CommandId) → IsBook book.now told committed → result ≡ is_stable_for topology.now told committed stamp.0 }
+    ensures { (told : List Telling) (committed : List CommandId) → IsBook book.now told committed
+        → result ≡ is_stable_for topology.now told committed stamp.0 }
 {
     topology.majority() <= count_to(book, topology, stamp.0)
 }
@@ -34,8 +37,11 @@ pub fn is_stable(book: &Book, topology: &Topology, stamp: Stamp) -> bool
 fn higher(book: &Book, topology: &Topology, top: u64, front: u64) -> u64
     requires { replicas_of book.now ≡ topology.now.replicas }
     ensures rises { top ≤ result }
-    ensures stable { (told : List Telling) (committed : List CommandId) → IsBook book.now told committed → is_stable_for topology.now told committed top ≡ true → is_stable_for topology.now told committed result ≡ true }
-    ensures low { (told : List Telling) (committed : List CommandId) → IsBook book.now told committed → is_stable_for topology.now told committed front ≡ true → front ≤ result }
+    ensures stable { (told : List Telling) (committed : List CommandId) → IsBook book.now told committed
+        → is_stable_for topology.now told committed top ≡ true
+        → is_stable_for topology.now told committed result ≡ true }
+    ensures low { (told : List Telling) (committed : List CommandId) → IsBook book.now told committed
+        → is_stable_for topology.now told committed front ≡ true → front ≤ result }
 {
     if top < front && is_stable(book, topology, Stamp(front)) {
         front
@@ -48,7 +54,8 @@ fn higher(book: &Book, topology: &Topology, top: u64, front: u64) -> u64
 fn counts_to(book: &Book, rank: Rank, stamp: u64) -> bool
     requires from { 1 ≤ rank.0 }
     requires to { rank.0 ≤ replicas_of book.now }
-    ensures { (told : List Telling) (committed : List CommandId) → IsBook book.now told committed → result ≡ all_up_to (is_counted told committed rank.0) stamp }
+    ensures { (told : List Telling) (committed : List CommandId) → IsBook book.now told committed
+        → result ≡ all_up_to (is_counted told committed rank.0) stamp }
 {
     stamp <= book.front(rank)
 }
@@ -56,7 +63,8 @@ fn counts_to(book: &Book, rank: Rank, stamp: u64) -> bool
 /// For how many ranks each number up to a stamp is counted.
 fn count_to(book: &Book, topology: &Topology, stamp: u64) -> u8
     requires { replicas_of book.now ≡ topology.now.replicas }
-    ensures { (told : List Telling) (committed : List CommandId) → IsBook book.now told committed → result ≡ count_up_to (λ rank. all_up_to (is_counted told committed rank) stamp) topology.now.replicas }
+    ensures { (told : List Telling) (committed : List CommandId) → IsBook book.now told committed
+        → result ≡ count_up_to (λ rank. all_up_to (is_counted told committed rank) stamp) topology.now.replicas }
 {
     let mut count = 0;
     for k in 0..topology.replicas() {

@@ -10,7 +10,8 @@ fn place_of(bytes: &[u8], mark: u8) -> Option<usize>
 
 /// What stands before the first byte of a value, and what stands behind it.
 pub(crate) fn cut(bytes: &[u8], mark: u8) -> Option<(&[u8], &[u8])>
-    ensures pieces { MatchOption result (pieces mark bytes.now ≡ bytes.now ∷ []) (λ p. pieces mark bytes.now ≡ p.0.now ∷ pieces mark p.1.now) }
+    ensures pieces { MatchOption result (pieces mark bytes.now ≡ bytes.now ∷ [])
+        (λ p. pieces mark bytes.now ≡ p.0.now ∷ pieces mark p.1.now) }
     ensures shorter { IfSome result (λ p. length p.0.now + length p.1.now + 1 ≡ length bytes.now) }
 {
     match place_of(bytes, mark) {

@@ -40,7 +40,8 @@ pub trait LineReader<C> {
 /// A line with its end. Where there is none, the cause that is given.
 #[tactic(auto, unfolding(crate::specs::Framing::ended_line))]
 pub fn take_line<'a, C: Copy>(lines: &mut Lines<'a>, missing: C) -> Result<&'a [u8], TextError<C>>
-    ensures read { Reads (λ line. (line.now, lines_of lines.new.left)) result (ended_line (lines.old.count + 1) missing (lines_of lines.old.left)) }
+    ensures read { Reads (λ line. (line.now, lines_of lines.new.left)) result
+        (ended_line (lines.old.count + 1) missing (lines_of lines.old.left)) }
     ensures rest { IfOk result (λ line. lines_of lines.old.left ≡ line.now ∷ lines_of lines.new.left) }
     ensures count { OnOk result (lines.new.count ≡ lines.old.count + 1) }
     ensures all { OnOk result (all_lines lines.new ≡ all_lines lines.old) }
@@ -114,7 +115,8 @@ pub fn take_header<C: Copy>(
     name: &[u8],
     causes: HeaderCauses<C>,
 ) -> Result<(), TextError<C>>
-    ensures read { Reads (λ _. (tt, lines_of lines.new.left)) result (header_at name.now causes (lines.old.count + 1) (lines_of lines.old.left)) }
+    ensures read { Reads (λ _. (tt, lines_of lines.new.left)) result
+        (header_at name.now causes (lines.old.count + 1) (lines_of lines.old.left)) }
     ensures count { OnOk result (lines.new.count ≡ lines.old.count + 1) }
     ensures all { OnOk result (all_lines lines.new ≡ all_lines lines.old) }
 {
@@ -139,7 +141,8 @@ fn take_one<C: Copy, D: LineReader<C>>(
     draft: &mut D,
 ) -> Result<bool, TextError<C>>
     requires { D.is_fit draft.old }
-    ensures read { Reads (λ more. ((more, draft.new), lines_of lines.new.left)) result (line_at (lines.old.count + 1) missing (D.line_of draft.old) (lines_of lines.old.left)) }
+    ensures read { Reads (λ more. ((more, draft.new), lines_of lines.new.left)) result
+        (line_at (lines.old.count + 1) missing (D.line_of draft.old) (lines_of lines.old.left)) }
     ensures fit { OnOk result (D.is_fit draft.new) }
     ensures rest { OnOk result (IsTail (lines_of lines.old.left) (lines_of lines.new.left)) }
     ensures count { OnOk result (lines.new.count ≡ lines.old.count + 1) }
@@ -165,7 +168,8 @@ pub fn take_lines<C: Copy, D: LineReader<C>>(
     draft: &mut D,
 ) -> Result<(), TextError<C>>
     requires { D.is_fit draft.old }
-    ensures read { Reads (λ _. (draft.new, lines_of lines.new.left)) result (lines_from missing D.line_of (lines.old.count + 1) draft.old (lines_of lines.old.left)) }
+    ensures read { Reads (λ _. (draft.new, lines_of lines.new.left)) result
+        (lines_from missing D.line_of (lines.old.count + 1) draft.old (lines_of lines.old.left)) }
     ensures all { OnOk result (all_lines lines.new ≡ all_lines lines.old) }
 {
     let mut more = true;

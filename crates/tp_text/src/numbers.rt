@@ -43,7 +43,8 @@ fn is_numeral(word: &[u8]) -> bool
 
 fn value(word: &[u8], limit: u64) -> Result<u64, NumberFault>
     requires { list_all is_ascii_digit word.now ≡ true }
-    ensures { result ≡ (if nat_le (digits_value 10 word.now) limit then Ok (digits_value 10 word.now) else Err NumberFault.NumberTooLarge) }
+    ensures { result ≡ (if nat_le (digits_value 10 word.now) limit
+        then Ok (digits_value 10 word.now) else Err NumberFault.NumberTooLarge) }
 {
     let mut n = 0u64;
     for c in word {

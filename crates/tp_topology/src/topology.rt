@@ -39,10 +39,13 @@ pub struct BadShape {
 impl Topology {
     /// A shape of 1 to 4 partitions with 3 to 7 replicas each, of which a minority may fail.
     pub fn new(partitions: u8, replicas: u8, failures: u8) -> Result<Topology, BadShape>
-        ensures shape { IfOk result (λ t. t ≡ record { partitions = partitions; replicas = replicas; failures = failures }) }
+        ensures shape { IfOk result (λ t. t
+            ≡ record { partitions = partitions; replicas = replicas; failures = failures }) }
         ensures valid { IfOk result (λ t. IsShape t) }
-        ensures numbers { IfErr result (λ bad. bad ≡ record { partitions = partitions; replicas = replicas; failures = failures }) }
-        ensures refused { IfErr result (λ bad. ¬ IsShape (record { partitions = partitions; replicas = replicas; failures = failures })) }
+        ensures numbers { IfErr result (λ bad. bad
+            ≡ record { partitions = partitions; replicas = replicas; failures = failures }) }
+        ensures refused { IfErr result (λ bad. ¬ IsShape
+            (record { partitions = partitions; replicas = replicas; failures = failures })) }
     {
         let in_range = 1 <= partitions
             && partitions <= 4
