@@ -8,7 +8,6 @@ ghost use Rattle.tp_rules.specs.Executor.{ExecutorState, committed_ids, enabled,
 ghost use Rattle.tp_topology.specs.Stability.{is_stable as is_stable_for};
 ghost use Rattle.tp_wire.specs.Ranges.{IsExecutor, IsInRange, IsProcess};
 
-use crate::addressed::{is_command_at, is_name_of};
 use crate::declaration::declarations;
 use crate::others::{awaited, is_alone};
 use crate::why::Why;
@@ -18,7 +17,7 @@ use tp_mstable::Declared;
 use tp_ops::{Answers, Command};
 use tp_promise::Book;
 use tp_queue::Queue;
-use tp_rules::{Actor, Inner, Outputs};
+use tp_rules::{Actor, Inner, Outputs, is_command_at, is_name_of};
 use tp_stable::{is_stable, threshold};
 use tp_store::Store;
 use tp_topology::Topology;

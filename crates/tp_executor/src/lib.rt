@@ -2,7 +2,6 @@
 //! committed commands in the order of their keys, and sends the answers to the sessions.
 #![tactic(auto)]
 
-mod addressed;
 mod declaration;
 mod executor;
 mod others;

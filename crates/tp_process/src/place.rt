@@ -5,7 +5,8 @@ ghost use Rattle.tp_rules.specs.Addresses.{is_name_of, is_body_at, is_command_at
 ghost use Rattle.tp_topology.specs.Shape.{IsSiteOf};
 
 use tp_base::{ActorName, PartitionId, Rank, Site};
-use tp_ops::{Command, accesses};
+use tp_ops::Command;
+use tp_rules::{is_command_at, is_name_of};
 use tp_topology::Topology;
 use tp_wire::{Body, Message};
 
@@ -57,16 +58,9 @@ impl Place {
             (ActorName.Process self.now.site) && is_name_of self.now.topology message.now.from
             && is_body_at self.now.topology self.now.site.partition.0 message.now.body) }
     {
-        message.to == self.name() && self.has_name(message.from) && self.takes_body(&message.body)
-    }
-
-    fn has_name(&self, name: ActorName) -> bool
-        ensures { result ≡ is_name_of self.now.topology name }
-    {
-        match name {
-            ActorName::Process(site) | ActorName::Executor(site) => self.topology.has_site(site),
-            ActorName::Session(_) => true,
-        }
+        message.to == self.name()
+            && is_name_of(&self.topology, message.from)
+            && self.takes_body(&message.body)
     }
 
     fn takes_body(&self, body: &Body) -> bool
@@ -116,7 +110,6 @@ impl Place {
     fn takes_command(&self, command: &Command) -> bool
         ensures { result ≡ is_command_at self.now.topology self.now.site.partition.0 command.now }
     {
-        self.topology.has_rank(command.home)
-            && accesses(command, self.topology.partitions(), self.site.partition)
+        is_command_at(&self.topology, self.site.partition, command)
     }
 }
