@@ -34,7 +34,3 @@ each_push P xs x h k = each_append P xs (x ∷ []) h (k, tt)
 pub each_map : {X Y : Type 0} (P : Y → Type 0) (f : X → Y) (xs : List X) → ((x : X) → P (f x)) → Each P (map f xs)
 each_map P f [] h = tt
 each_map P f (x ∷ xs) h = (h x, each_map P f xs h)
-
-pub each_flat : {X Y : Type 0} (P : Y → Type 0) (f : X → List Y) (xs : List X) → ((x : X) → Each P (f x)) → Each P (flat_map f xs)
-each_flat P f [] h = tt
-each_flat P f (x ∷ xs) h = each_append P (f x) (flat_map f xs) (h x) (each_flat P f xs h)

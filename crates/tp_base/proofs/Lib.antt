@@ -9,3 +9,4 @@ pub mod Ranges
 pub mod Reading
 pub mod SameNames
 pub mod Tables
+pub mod Tests

@@ -94,9 +94,6 @@ has_cases same x (z ∷ zs) ys h = elim (or_cases (same x z) (has same x (zs ++ 
   | inr later ↦ elim (has_cases same x zs ys later) [ inl l ↦ inl (or_right (same x z) (has same x zs) l) | inr r ↦ inr r ]
 ]
 
-pub has_here : {X : Type 0} (same : X → X → Bool) (x : X) (xs : List X) → same x x ≡ true → has same x (xs ++ x ∷ []) ≡ true
-has_here same x xs self = has_right same x xs (x ∷ []) (has_head same x [] self)
-
 -- the test says that an item is in the list, where the same are equal
 pub has_in : {X : Type 0} (same : X → X → Bool) → ((a b : X) → same a b ≡ true → a ≡ b) → (x : X) (xs : List X) → has same x xs ≡ true → IsIn x xs
 has_in same equal x [] h = absurd cc

@@ -26,12 +26,3 @@ pub ascends_push : {X : Type 0} (before : X → X → Bool) (xs : List X) (y : X
     → Ascends before xs → Each (λ x. before x y ≡ true) xs → Ascends before (xs ++ y ∷ [])
 ascends_push before [] y h after = (tt, tt)
 ascends_push before (x ∷ xs) y h after = (each_push (λ z. before x z ≡ true) xs y h.0 after.0, ascends_push before xs y h.1 after.1)
-
-pub ascends_places : {X : Type 0} (before : X → X → Bool) (xs : List X) (i k : ℕ) (x y : X)
-    → Ascends before xs → slice_get xs i ≡ Some x → slice_get xs k ≡ Some y → i < k → before x y ≡ true
-ascends_places before [] i k x y h p q lt = absurd cc
-ascends_places before (z ∷ zs) i zero x y h p q lt = absurd (omega arith)
-ascends_places before (z ∷ zs) zero (suc k) x y h p q lt =
-    let same : z ≡ x = cc in
-    subst (λ w. before w y ≡ true) same (each_in (λ w. before z w ≡ true) zs y h.0 (in_get zs k y q))
-ascends_places before (z ∷ zs) (suc i) (suc k) x y h p q lt = ascends_places before zs i k x y h.1 p q (omega arith)

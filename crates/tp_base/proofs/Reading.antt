@@ -7,10 +7,6 @@ use Rattle.tp_base.specs.Fields.{At, IsBytes, left, past}
 pub left_past : (n : ℕ) (at : At) → left (past n at) ≡ drop n (left at)
 left_past n at = sym (drop-drop n at.place at.input)
 
-pub past_past : (m n : ℕ) (at : At) → past n (past m at) ≡ past (m + n) at
-past_past m n at = let same : at.place + m + n ≡ at.place + (m + n) = omega arith in
-    ap (λ (place : ℕ). let moved : At = record { input = at.input; place = place } in moved) same
-
 -- the bytes of a text that is next, and what is left behind it
 pub take_text : (text rest : List ℕ) (at : At) (n : ℕ) → left at ≡ text ++ rest → length text ≡ n → take n (left at) ≡ text
 take_text text rest at n e len = ap (take n) e ∙ take_at text rest n len

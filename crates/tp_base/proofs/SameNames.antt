@@ -26,12 +26,6 @@ same_site_refl a = grind arith
 pub same_site_is : (a b : Site) → same_site a b ≡ true → a ≡ b
 same_site_is a b e = grind arith
 
-pub same_site_sym : (a b : Site) → same_site a b ≡ same_site b a
-same_site_sym a b = grind arith
-
-pub same_site_not : (a b : Site) → a ≢ b → same_site a b ≡ false
-same_site_not a b apart = grind arith
-
 pub same_name_refl : (a : ActorName) → same_name a a ≡ true
 same_name_refl (Process a) = same_site_refl a
 same_name_refl (Executor a) = same_site_refl a
@@ -48,17 +42,6 @@ same_name_is (Session a) (Session b) e = ap (λ (n : ℕ). Session (record { 0 =
 same_name_is (Session a) (Process b) e = absurd cc
 same_name_is (Session a) (Executor b) e = absurd cc
 
-pub same_name_sym : (a b : ActorName) → same_name a b ≡ same_name b a
-same_name_sym (Process a) (Process b) = same_site_sym a b
-same_name_sym (Process a) (Executor b) = refl
-same_name_sym (Process a) (Session b) = refl
-same_name_sym (Executor a) (Executor b) = same_site_sym a b
-same_name_sym (Executor a) (Process b) = refl
-same_name_sym (Executor a) (Session b) = refl
-same_name_sym (Session a) (Session b) = grind arith
-same_name_sym (Session a) (Process b) = refl
-same_name_sym (Session a) (Executor b) = refl
-
 pub same_name_not : (a b : ActorName) → a ≢ b → same_name a b ≡ false
 same_name_not a b apart = go (same_name a b) refl
   where
@@ -68,14 +51,8 @@ same_name_not a b apart = go (same_name a b) refl
 
 -- the order of identifiers
 
-pub id_lt_self : (a : CommandId) → id_lt a a ≡ false
-id_lt_self a = grind arith
-
 pub id_lt_then : (a b c : CommandId) → id_lt a b ≡ true → id_lt b c ≡ true → id_lt a c ≡ true
 id_lt_then a b c p q = grind arith
-
-pub id_cases : (a b : CommandId) → (a ≡ b) ⊎ ((id_lt a b ≡ true) ⊎ (id_lt b a ≡ true))
-id_cases a b = grind arith
 
 -- the order of keys
 

@@ -80,7 +80,7 @@ set_nth xs (suc i) x some = let same : suc i - 1 ≡ i = omega arith in ap (λ (
 
 -- a table at the start
 
-got_replicate : {X : Type 0} (n i : ℕ) (x y : X) → slice_get (replicate n x) i ≡ Some y → x ≡ y
+pub got_replicate : {X : Type 0} (n i : ℕ) (x y : X) → slice_get (replicate n x) i ≡ Some y → x ≡ y
 got_replicate zero i x y e = absurd cc
 got_replicate (suc n) zero x y e = cc
 got_replicate (suc n) (suc i) x y e = got_replicate n i x y e
