@@ -1,3 +1,4 @@
 pub mod Passing
 pub mod Meetings
 pub mod Sizes
+pub mod UpTo

@@ -52,18 +52,3 @@ share p q (suc n) = go (p (suc n)) (q (suc n)) (share p q n)
 -- whether a rank is in a list of them
 abbrev pub is_of : List ℕ → ℕ → Bool
 is_of ranks k = has nat_eq k ranks
-
-none_of_it : (x : ℕ) (xs : List ℕ) → AllByRecursion (λ y. nat_eq x y ≡ false) xs → is_of xs x ≡ false
-none_of_it x [] none = refl
-none_of_it x (y ∷ ys) none = let rest = none_of_it x ys none.1 in let here = none.0 in grind (arith, rest, here)
-
--- a list of distinct ranks is a set of as many
-pub count_of_ranks : (ranks : List ℕ) (n : ℕ) → IsDistinct nat_eq ranks → Each (λ k. (1 ≤ k) × (k ≤ n)) ranks
-    → count_up_to (is_of ranks) n ≡ length ranks
-unfolding IsDistinct
-count_of_ranks [] n distinct within = count_none (is_of []) n (λ k _ _. refl)
-count_of_ranks (x ∷ xs) n distinct within =
-    count_with_one (is_of xs) (is_of (x ∷ xs)) n x within.0.0 within.0.1 (none_of_it x xs distinct.0)
-    (ap (λ (b : Bool). b || is_of xs x) (eq-eqb x x refl))
-    (λ k apart. ap (λ (b : Bool). b || is_of xs k) (ne_eqb k x apart))
-    ∙ ap (λ (c : ℕ). suc c) (count_of_ranks xs n distinct.1 within.1)
