@@ -3,6 +3,7 @@ use Rattle.std.proofs.Common.{◌≡◌, ◌≢◌, ℕ, ◌<◌, ◌≤◌, ◌
 use Rattle.std.specs.Prelude.{◌==◌, ◌&&◌, ◌||◌, nat_lt}
 use Rattle.std.specs.List.{list_any}
 use Rattle.std.proofs.lemmas.Bool.{cases_lt, and_parts, or_cases, eqb-true}
+use Rattle.tp_base.proofs.Tests.{none_in, some_in}
 use Rattle.tp_base.specs.declared.names.Made.{Made}
 use Rattle.tp_base.specs.declared.names.Made.TheVariants.{Proposal, Recovery}
 use Rattle.tp_base.specs.Lists.{IsIn}
@@ -84,19 +85,7 @@ best_of x xs =
 
 -- lists
 
-any_out : {X : Type 0} (p : X → Bool) (xs : List X) → list_any p xs ≡ true → (x : X) × IsIn x xs × (p x ≡ true)
-any_out p [] e = absurd cc
-any_out p (x ∷ xs) e = elim (or_cases (p x) (list_any p xs) e) [
-  | inl here ↦ (x, inl refl, here)
-  | inr later ↦ let rest = any_out p xs later in (rest.0, inr rest.1, rest.2)
-]
-
-none_in : {X : Type 0} (p : X → Bool) (xs : List X) (x : X) → list_any p xs ≡ false → IsIn x xs → p x ≡ false
-none_in p [] x e h = absurd h
-none_in p (y ∷ ys) x e (inl same) = let here : p y ≡ false = grind arith in subst (λ (z : _). p z ≡ false) (sym same) here
-none_in p (y ∷ ys) x e (inr h) = let later : list_any p ys ≡ false = grind arith in none_in p ys x later h
-
-greatest_over : (f : RecoveryAnswer → ℕ) (xs : List RecoveryAnswer) (x : RecoveryAnswer) → IsIn x xs → f x ≤ greatest_by f xs
+pub greatest_over : (f : RecoveryAnswer → ℕ) (xs : List RecoveryAnswer) (x : RecoveryAnswer) → IsIn x xs → f x ≤ greatest_by f xs
 greatest_over f [] x h = absurd h
 greatest_over f (y ∷ ys) x (inl e) = let same : f x ≡ f y = ap f e in omega arith
 greatest_over f (y ∷ ys) x (inr h) = let rest = greatest_over f ys x h in omega arith
@@ -142,7 +131,7 @@ proposals in_quorum home answers none = go (list_any (tells_slow in_quorum home)
   where
     go : (t : Bool) → list_any (tells_slow in_quorum home) answers ≡ t
         → IsChosen in_quorum home answers (cond t (greatest_by (λ a. a.stamp.0) answers) (greatest_by (member_stamp in_quorum) answers))
-    go true e = let m = any_out (tells_slow in_quorum home) answers e in let is = slow_is in_quorum home m.0 m.2 in
+    go true e = let m = some_in (tells_slow in_quorum home) answers e in let is = slow_is in_quorum home m.0 m.2 in
         of_all none m.0 m.1 is.0 is.1 (greatest_over (λ a. a.stamp.0) answers) (greatest_of (λ a. a.stamp.0) answers)
     go false e = of_members none
         (λ b h member. not_slow in_quorum home b (none_in (tells_slow in_quorum home) answers b e h) member)

@@ -14,6 +14,7 @@ use Rattle.tp_base.specs.declared.names.Rank.{Rank}
 use Rattle.tp_base.proofs.Each.{each_in, each_push}
 use Rattle.tp_base.proofs.Members.{in_get}
 use Rattle.tp_base.specs.Tables.{nth}
+use Rattle.tp_base.proofs.Tests.{filter_length}
 use Rattle.tp_ops.specs.Limits.{IsOp}
 use Rattle.tp_ops.specs.declared.command.Command.{Command}
 use Rattle.tp_ops.specs.declared.operation.Op.{Op}
@@ -102,14 +103,6 @@ session_grows script after words ok c p k e =
 
 -- ---- commands
 
-length-filter_le : {X : Type 0} (p : X → Bool) (xs : List X) → length (filter p xs) ≤ length xs
-length-filter_le p [] = omega arith
-length-filter_le p (x ∷ xs) = go (p x) (length-filter_le p xs)
-  where
-    go : (b : Bool) → length (filter p xs) ≤ length xs → length (cond b (x ∷ filter p xs) (filter p xs)) ≤ suc (length xs)
-    go true le = omega (arith, le)
-    go false le = omega (arith, le)
-
 abbrev pub is_by : ℕ → Command → Bool
 is_by s c = c.id.session.0 == s
 
@@ -121,9 +114,6 @@ numbered_after s commands c true same are next =
     ∙ ap (λ (n : ℕ). up_to (length (filter (is_by s) commands)) ++ n ∷ []) (next refl)
     ∙ ap up_to (sym (one_longer (filter (is_by s) commands) c))
 numbered_after s commands c false same are next = rw (append-nil (filter (is_by s) commands)) are
-
-filter_one : (s : ℕ) (c : Command) → filter (is_by s) (c ∷ []) ≡ cond (is_by s c) (c ∷ []) []
-filter_one s c = refl
 
 numbered_push : (commands : List Command) (c : Command) → ((s : ℕ) → AreNumbered commands s) → c.id.number ≡ next_number commands c.id.session.0 → (s : ℕ) → AreNumbered (commands ++ c ∷ []) s
 unfolding next_number
@@ -164,7 +154,7 @@ new_command : (script : Script) (s : ℕ) (ops : List Op) (home : Rank) → IsAc
     → IsCommandOf script.homes (next_command script.commands s home ops)
 unfolding next_number
 new_command script s ops home ok declared' few some fit =
-    let least = length-filter_le (is_by s) script.commands in
+    let least = filter_length (is_by s) script.commands in
     let rank = each_in (λ (h : Rank). IsFrom 1 script.topology.replicas h.0) script.homes home ok.homes (in_get script.homes (s - 1) home declared'.place) in
     let id' : IsFrom 1 16 s × IsFrom 1 1000 (suc (length (commands_by s script.commands))) = ((declared'.range.0, omega (arith, declared'.range.1, ok.sessions)), (omega arith, omega (arith, least, few))) in
     ((id', (rank.0, omega (arith, rank.1, ok.shape.few_replicas)), some, fit), declared'.range, declared'.there)

@@ -37,6 +37,7 @@ use Rattle.tp_text.specs.Names.{actor_word, id_word, site_word}
 use Rattle.tp_text.specs.Rows.{words_of_row}
 use Rattle.tp_text.specs.Steps.{◌>>=◌, need}
 use Rattle.tp_text.proofs.Rowed.{AreSaid, row_again, word_again}
+use Rattle.tp_topology.proofs.UpTo.{get_up_to}
 use Rattle.tp_topology.specs.Counting.{up_to}
 use Rattle.tp_topology.specs.Shape.{IsShape, Shape as StoreShape}
 
@@ -80,20 +81,6 @@ session_read group script home le valid few range = rw (le-leb group 1 le, sessi
 
 -- ---- commands
 
-length-up_to : (n : ℕ) → length (up_to n) ≡ n
-length-up_to zero = refl
-length-up_to (suc n) = omega (arith, length-append (up_to n) (suc n ∷ []), length-up_to n)
-
-up_to_at : (n i : ℕ) → i < n → slice_get (up_to n) i ≡ Some (suc i)
-up_to_at zero i lt = absurd (omega arith)
-up_to_at (suc n) i lt = elim (cases_lt i n) [
-  | inl below ↦ slice_get_left (up_to n) (suc n ∷ []) i (omega (arith, length-up_to n)) ∙ up_to_at n i below
-  | inr top ↦
-      let same : i ≡ n = omega arith in
-      let place : slice_get (up_to n ++ suc n ∷ []) n ≡ Some (suc n) = ap (slice_get (up_to n ++ suc n ∷ [])) (sym (length-up_to n)) ∙ slice_get_push (up_to n) (suc n) in
-      rw same place
-]
-
 get_mapped : (f : Command → ℕ) (xs : List Command) (c : Command) (ys : List Command) → slice_get (map f (xs ++ c ∷ ys)) (length xs) ≡ Some (f c)
 get_mapped f [] c ys = refl
 get_mapped f (x ∷ xs) c ys = get_mapped f xs c ys
@@ -108,7 +95,7 @@ number_next before after c are =
     let whole : filter (is_by s) (before ++ c ∷ after) ≡ xs ++ c ∷ ys = filter-append (is_by s) before (c ∷ after) ∙ ap (λ (z : List Command). xs ++ z) here in
     let numbers : map (λ (x : Command). x.id.number) (xs ++ c ∷ ys) ≡ up_to (length (xs ++ c ∷ ys)) = rw (← whole) are in
     let first : Some c.id.number ≡ slice_get (map (λ (x : Command). x.id.number) (xs ++ c ∷ ys)) (length xs) = sym (get_mapped (λ (x : Command). x.id.number) xs c ys) in
-    let second : slice_get (up_to (length (xs ++ c ∷ ys))) (length xs) ≡ Some (suc (length xs)) = up_to_at (length (xs ++ c ∷ ys)) (length xs) (omega (arith, length-append xs (c ∷ ys))) in
+    let second : slice_get (up_to (length (xs ++ c ∷ ys))) (length xs) ≡ Some (suc (length xs)) = get_up_to (length (xs ++ c ∷ ys)) (length xs) (omega (arith, length-append xs (c ∷ ys))) in
     let both : Some c.id.number ≡ Some (suc (length xs)) = first ∙ ap (λ (l : List ℕ). slice_get l (length xs)) numbers ∙ second in
     cc
 
