@@ -1,5 +1,5 @@
 -- Numbers in ranges, and those that are attached.
-use Rattle.std.proofs.Common.{◌≡◌, ◌≢◌, ℕ, ◌+◌, ◌<◌, ◌≤◌, ◌⊎◌, inl, inr, Bool, true, false, cond, List, [], ◌∷◌, ◌++◌, length, get_or, drop, take, refl, sym, ap, subst, ◌∙◌, arith}
+use Rattle.std.proofs.Common.{◌≡◌, ◌≢◌, ℕ, ◌+◌, ◌<◌, ◌≤◌, inl, inr, Bool, true, false, cond, List, [], ◌∷◌, ◌++◌, length, get_or, drop, take, refl, sym, ap, subst, ◌∙◌, arith}
 use Rattle.std.specs.Prelude.{◌-◌, ◌||◌, ◌&&◌, ◌==◌, filter, nat_le, nat_lt}
 use Rattle.std.proofs.lemmas.Grind.{take_at_read}
 use Rattle.std.proofs.lemmas.Bool.{or_cases, eqb-true}
@@ -85,30 +85,6 @@ clear_further pairs i front last clear clear' d p lt at is so_far = go (nat_lt f
           let more = taken (clear + 1) in
           subst (λ (k : ℕ). is_attached (take (i + 1) pairs) (k + 1) ≡ true) (sym same) (grind (arith, old, more));
     }
-
--- members of a filtered list
-
-filter_head : {X : Type 0} (p : X → Bool) (x y : X) (xs : List X) (t : Bool) → p y ≡ t → IsIn x (cond t (y ∷ filter p xs) (filter p xs))
-    → (IsIn x (filter p xs) → IsIn x xs × (p x ≡ true)) → IsIn x (y ∷ xs) × (p x ≡ true)
-filter_head p x y xs true e (inl same) rest = (inl same, subst (λ (z : _). p z ≡ true) (sym same) e)
-filter_head p x y xs true e (inr h) rest = (inr (rest h).0, (rest h).1)
-filter_head p x y xs false e h rest = (inr (rest h).0, (rest h).1)
-
-pub filter_in : {X : Type 0} (p : X → Bool) (xs : List X) (x : X) → IsIn x (filter p xs) → IsIn x xs × (p x ≡ true)
-filter_in p [] x h = absurd h
-filter_in p (y ∷ ys) x h = filter_head p x y ys (p y) refl h (filter_in p ys x)
-
-in_head : {X : Type 0} (p : X → Bool) (x y : X) (xs : List X) (t : Bool) → p y ≡ t → p x ≡ true → (x ≡ y) ⊎ IsIn x (filter p xs)
-    → IsIn x (cond t (y ∷ filter p xs) (filter p xs))
-in_head p x y xs true e passes (inl same) = inl same
-in_head p x y xs true e passes (inr h) = inr h
-in_head p x y xs false e passes (inl same) = let no : p x ≡ false = subst (λ (z : _). p z ≡ false) (sym same) e in absurd cc
-in_head p x y xs false e passes (inr h) = h
-
-pub in_filter : {X : Type 0} (p : X → Bool) (xs : List X) (x : X) → IsIn x xs → p x ≡ true → IsIn x (filter p xs)
-in_filter p [] x h passes = absurd h
-in_filter p (y ∷ ys) x (inl e) passes = in_head p x y ys (p y) refl passes (inl e)
-in_filter p (y ∷ ys) x (inr h) passes = in_head p x y ys (p y) refl passes (inr (in_filter p ys x h passes))
 
 -- the page of a rank that told nothing
 abbrev pub blank : Page

@@ -4,7 +4,7 @@ use Rattle.std.proofs.lemmas.List.{drop_more}
 use Rattle.std.specs.Prelude.{filter, nat_lt}
 use Rattle.std.proofs.lemmas.Bool.{lt-ltb, ltb-true}
 use Rattle.tp_base.specs.Lists.{Ascends, Each, IsIn}
-use Rattle.tp_base.proofs.Each.{each_in, each_push}
+use Rattle.tp_base.proofs.Each.{each_in, each_of, each_push}
 use Rattle.tp_base.proofs.Members.{in_either, in_left, in_right}
 use Rattle.tp_base.proofs.Orders.{ascends_before, ascends_push, ascends_right}
 use Rattle.tp_promise.specs.declared.ranges.Range.{Range}
@@ -16,16 +16,12 @@ before a b = nat_lt a.hi b.lo
 abbrev Some : List Range → Type 0
 Some ranges = Each (λ r. r.lo < r.hi) ranges
 
-each_from : {X : Type 0} (P : X → Type 0) (xs : List X) → ((x : X) → IsIn x xs → P x) → Each P xs
-each_from P [] all = tt
-each_from P (x ∷ xs) all = (all x (inl refl), each_from P xs (λ y h. all y (inr h)))
-
 -- between those before it and those after it
 ascends_insert : (xs ys : List Range) (r : Range) → Ascends before (xs ++ ys) → ((x : Range) → IsIn x xs → before x r ≡ true) → ((y : Range) → IsIn y ys → before r y ≡ true)
     → Ascends before (xs ++ r ∷ ys)
-ascends_insert [] ys r up low high = (each_from (λ y. before r y ≡ true) ys high, up)
+ascends_insert [] ys r up low high = (each_of (λ y. before r y ≡ true) ys high, up)
 ascends_insert (x ∷ xs) ys r up low high = (
-  each_from (λ y. before x y ≡ true) (xs ++ r ∷ ys) (λ y h. elim (in_either xs (r ∷ ys) y h) [
+  each_of (λ y. before x y ≡ true) (xs ++ r ∷ ys) (λ y h. elim (in_either xs (r ∷ ys) y h) [
     | inl l ↦ each_in (λ z. before x z ≡ true) (xs ++ ys) y up.0 (in_left xs ys y l)
     | inr there ↦ elim there [
       | inl e ↦ subst (λ z. before x z ≡ true) (sym e) (low x (inl refl))
@@ -38,7 +34,7 @@ ascends_insert (x ∷ xs) ys r up low high = (
 ascends_remove : (xs ys : List Range) (r : Range) → Ascends before (xs ++ r ∷ ys) → Ascends before (xs ++ ys)
 ascends_remove [] ys r up = up.1
 ascends_remove (x ∷ xs) ys r up = (
-  each_from (λ y. before x y ≡ true) (xs ++ ys) (λ y h. each_in (λ z. before x z ≡ true) (xs ++ r ∷ ys) y up.0 (elim (in_either xs ys y h) [
+  each_of (λ y. before x y ≡ true) (xs ++ ys) (λ y h. each_in (λ z. before x z ≡ true) (xs ++ r ∷ ys) y up.0 (elim (in_either xs ys y h) [
     | inl l ↦ in_left xs (r ∷ ys) y l
     | inr g ↦ in_right xs (r ∷ ys) y (inr g)
   ])),
@@ -107,7 +103,7 @@ placed_first first last left merged r is lt = record {
 pub placed_last : (first last left : List Range) (merged r : Range) → IsPlaced first merged last (r ∷ left) → merged.hi < r.lo → IsPlaced first merged (last ++ r ∷ []) left
 placed_last first last left merged r is lt = record {
   whole = subst (λ l. Ascends before l) (append_assoc first (merged ∷ last) (r ∷ []))
-      (ascends_push before (first ++ merged ∷ last) r is.whole (each_from (λ x. before x r ≡ true) (first ++ merged ∷ last) (λ x h. elim (in_either first (merged ∷ last) x h) [
+      (ascends_push before (first ++ merged ∷ last) r is.whole (each_of (λ x. before x r ≡ true) (first ++ merged ∷ last) (λ x h. elim (in_either first (merged ∷ last) x h) [
         | inl l ↦ ascends_before before first (r ∷ left) x r is.first_left l (inl refl)
         | inr g ↦ elim g [
           | inl e ↦ subst (λ z. before z r ≡ true) (sym e) (lt-ltb merged.hi r.lo lt)
@@ -148,7 +144,7 @@ placed_all first first' last left all merged is one whole =
     let same : all ≡ first ++ merged ∷ last = whole ∙ ap (λ (l : List Range). l ++ last) one ∙ append_assoc first (merged ∷ []) last in
     record {
       ascending = subst (λ l. Ascends before l) (sym same) is.whole;
-      some = subst (λ l. Some l) (sym same) (each_from (λ x. x.lo < x.hi) (first ++ merged ∷ last) (λ x h. elim (in_either first (merged ∷ last) x h) [
+      some = subst (λ l. Some l) (sym same) (each_of (λ x. x.lo < x.hi) (first ++ merged ∷ last) (λ x h. elim (in_either first (merged ∷ last) x h) [
         | inl l ↦ each_in (λ z. z.lo < z.hi) first x is.some_first l
         | inr g ↦ elim g [
           | inl e ↦ subst (λ z. z.lo < z.hi) (sym e) is.some_merged

@@ -1,5 +1,5 @@
 -- The pages of all ranks.
-use Rattle.std.proofs.Common.{◌≡◌, ◌≢◌, ℕ, zero, suc, ◌+◌, ◌<◌, ◌≤◌, inl, inr, true, cond, List, [], ◌∷◌, length, get_or, set, Some, refl, sym, ap, subst, ◌∙◌, arith, length-set, replicate}
+use Rattle.std.proofs.Common.{◌≡◌, ◌≢◌, ℕ, ◌+◌, ◌<◌, ◌≤◌, inl, inr, true, cond, List, [], ◌∷◌, length, get_or, set, Some, refl, sym, ap, subst, ◌∙◌, arith, length-set, replicate}
 use Rattle.std.specs.Prelude.{slice_get}
 use Rattle.std.proofs.lemmas.Bool.{cases_eq}
 use Rattle.std.proofs.lemmas.Option.{slice_get-get_or, slice_get_within}
@@ -8,6 +8,7 @@ use Rattle.tp_base.specs.Lists.{has}
 use Rattle.tp_base.specs.Names.{same_id}
 use Rattle.tp_base.proofs.Ends.{get_set_other, get_set_same}
 use Rattle.tp_base.proofs.SameNames.{same_id_sym}
+use Rattle.tp_base.proofs.Tables.{got_replicate}
 use Rattle.tp_promise.specs.Books.{Commits}
 use Rattle.tp_promise.specs.Pages.{IsPage, Page}
 use Rattle.tp_promise.proofs.Numbers.{blank}
@@ -45,14 +46,9 @@ all_committed id old new n is le i page' e = is.done i page' (let lt : i < lengt
 
 -- new pages
 
-get_replicate : (n i : ℕ) (page page' : Page) → slice_get (replicate n page) i ≡ Some page' → page ≡ page'
-get_replicate zero i page page' e = absurd cc
-get_replicate (suc n) zero page page' e = cc
-get_replicate (suc n) (suc i) page page' e = get_replicate n i page page' e
-
 pub new_pages : (n : ℕ) (pages : List Page) → pages ≡ replicate n blank → (i : ℕ) (page : Page) → slice_get pages i ≡ Some page → IsPage page [] [] (i + 1)
 new_pages n pages is i page e =
-    let one : blank ≡ page = get_replicate n i blank page (ap (λ (l : List Page). slice_get l i) (sym is) ∙ e) in
+    let one : blank ≡ page = got_replicate n i blank page (ap (λ (l : List Page). slice_get l i) (sym is) ∙ e) in
     subst (λ (p : Page). IsPage p [] [] (i + 1)) one (fresh (i + 1))
 
 -- a telling of one rank

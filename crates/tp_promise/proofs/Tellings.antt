@@ -8,9 +8,11 @@ use Rattle.tp_base.specs.Lists.{Ascends, IsIn, has}
 use Rattle.tp_base.specs.Names.{same_id}
 use Rattle.tp_base.proofs.Each.{each_in}
 use Rattle.tp_base.proofs.Members.{in_either, in_left, in_right}
+use Rattle.tp_base.proofs.Options.{absent}
+use Rattle.tp_base.proofs.Tests.{filter_in, in_filter}
 use Rattle.tp_promise.specs.declared.ranges.Range.{Range}
 use Rattle.tp_promise.specs.Pages.{in_ranges, is_attached, waits, Advances, AreTold, IsPage, IsStopped, Page}
-use Rattle.tp_promise.proofs.Numbers.{attached_is, attached_out, filter_in, in_filter}
+use Rattle.tp_promise.proofs.Numbers.{attached_is, attached_out}
 use Rattle.tp_topology.specs.Counting.{all_up_to}
 use Rattle.tp_topology.specs.Stability.{Telling, attached_to, counts, first_of_both, is_counted, told_as, told_by}
 use Rattle.tp_topology.proofs.Passing.{all_from}
@@ -177,10 +179,6 @@ module _ (page : Page) (told : List Telling) (committed keys : List CommandId) (
       ap (λ (t : Bool). t || within n) (is.above n lt)
       ∙ sym (ap is_some (told_now n) ∙ some_of_both (told_as told rank n) (cond (within n) (Some (attached_to pairs n)) None) ∙ ap (λ (t : Bool). is_some (told_as told rank n) || t) (some_told n (within n)))
 
-  none_told : (o : Option (Option CommandId)) → is_some o ≡ false → o ≡ None
-  none_told None e = refl
-  none_told (Some owner) e = absurd cc
-
   first_is : (o later : Option (Option CommandId)) (id : CommandId) → o ≡ Some (Some id) → first_of_both o later ≡ Some (Some id)
   first_is o later id e = ap (λ (x : Option (Option CommandId)). first_of_both x later) e
 
@@ -196,7 +194,7 @@ module _ (page : Page) (told : List Telling) (committed keys : List CommandId) (
       let passes : waits page.front page.ranges keys (pair_at n id) ≡ true = parts.1 in
       let untold : in_ranges page.ranges n ≡ false = grind arith in
       let uncommitted : has same_id id keys ≡ false = grind arith in
-      let none : told_as told rank n ≡ None = none_told (told_as told rank n) (sym (is.above n lt) ∙ untold) in
+      let none : told_as told rank n ≡ None = absent (told_as told rank n) (sym (is.above n lt) ∙ untold) in
       let range : (lo < n) × (n ≤ hi) = each_in (λ (p : Pair). (lo < p.stamp.0) × (p.stamp.0 ≤ hi)) pairs (pair_at n id) are.within parts.0 in
       let inside : within n ≡ true = let low : nat_lt lo n ≡ true = lt-ltb lo n range.0 in let high : nat_le n hi ≡ true = le-leb n hi range.1 in grind arith in
       let owner : attached_to pairs n ≡ Some id = attached_only pairs n id are.ascending parts.0 in (

@@ -1,18 +1,20 @@
 -- What a queue's map holds, against what was put and taken.
 use Rattle.std.proofs.Common.{◌≡◌, ◌≢◌, suc, ◌<◌, ◌↔◌, ◌⊎◌, inl, inr, Bool, true, false, not, cond, List, [], ◌∷◌, length, Option, Some, None, refl, sym, ap, subst, ◌∙◌, arith}
-use Rattle.std.specs.Prelude.{filter, ◌||◌, IsSome, IfSome, IfNone, OnErr, Result, Ok, Err}
+use Rattle.std.specs.Prelude.{◌||◌, IsSome, IfSome, IfNone, OnErr, Result, Ok, Err}
 use Rattle.std.specs.Option.{option_map}
 use Rattle.tp_queue.specs.declared.queue.Queue.{Queue}
-use Rattle.std.specs.List.{All, list_any}
+use Rattle.std.specs.List.{All}
 use Rattle.std.specs.Map.{keys_of}
 use Rattle.std.specs.BTreeMap.{insert_entry}
 use Rattle.std.specs.Ordering.{is_gt, nat_cmp, match_ordering, ordering_then}
 use Rattle.std.proofs.Common.{Ordering, Less, Equal, Greater}
+use Rattle.tp_base.proofs.Each.{each_of}
 use Rattle.tp_base.specs.declared.names.CommandId.{CommandId}
 use Rattle.tp_base.specs.declared.names.Key.{Key}
-use Rattle.tp_base.specs.Lists.{Each, IsIn, has}
+use Rattle.tp_base.specs.Lists.{IsIn, has}
 use Rattle.tp_base.specs.Names.{same_id, key_lt}
 use Rattle.tp_base.proofs.SameNames.{key_lt_self, same_id_refl, same_id_is, same_id_not}
+use Rattle.tp_base.proofs.Tests.{any_in, filter_in, in_filter}
 use Rattle.tp_ops.specs.declared.command.Command.{Command}
 use Rattle.tp_queue.specs.Waiting.{Calls, Entry, IsAfter, IsLeast, left, was_put, with_taken}
 
@@ -31,41 +33,10 @@ at_most a b e = grind arith
 
 -- lists
 
-each_from : {X : Type 0} (P : X → Type 0) (xs : List X) → ((x : X) → IsIn x xs → P x) → Each P xs
-each_from P [] all = tt
-each_from P (x ∷ xs) all = (all x (inl refl), each_from P xs (λ y h. all y (inr h)))
-
-filter_head : {X : Type 0} (p : X → Bool) (x y : X) (xs : List X) (t : Bool) → p y ≡ t → IsIn x (cond t (y ∷ filter p xs) (filter p xs))
-    → (IsIn x (filter p xs) → IsIn x xs × (p x ≡ true)) → IsIn x (y ∷ xs) × (p x ≡ true)
-filter_head p x y xs true e (inl same) rest = (inl same, subst (λ (z : _). p z ≡ true) (sym same) e)
-filter_head p x y xs true e (inr h) rest = (inr (rest h).0, (rest h).1)
-filter_head p x y xs false e h rest = (inr (rest h).0, (rest h).1)
-
-filter_in : {X : Type 0} (p : X → Bool) (xs : List X) (x : X) → IsIn x (filter p xs) → IsIn x xs × (p x ≡ true)
-filter_in p [] x h = absurd h
-filter_in p (y ∷ ys) x h = filter_head p x y ys (p y) refl h (filter_in p ys x)
-
-in_head : {X : Type 0} (p : X → Bool) (x y : X) (xs : List X) (t : Bool) → p y ≡ t → p x ≡ true → (x ≡ y) ⊎ IsIn x (filter p xs)
-    → IsIn x (cond t (y ∷ filter p xs) (filter p xs))
-in_head p x y xs true e passes (inl same) = inl same
-in_head p x y xs true e passes (inr h) = inr h
-in_head p x y xs false e passes (inl same) = let no : p x ≡ false = subst (λ (z : _). p z ≡ false) (sym same) e in absurd cc
-in_head p x y xs false e passes (inr h) = h
-
-in_filter : {X : Type 0} (p : X → Bool) (xs : List X) (x : X) → IsIn x xs → p x ≡ true → IsIn x (filter p xs)
-in_filter p [] x h passes = absurd h
-in_filter p (y ∷ ys) x (inl e) passes = in_head p x y ys (p y) refl passes (inl e)
-in_filter p (y ∷ ys) x (inr h) passes = in_head p x y ys (p y) refl passes (inr (in_filter p ys x h passes))
-
-any_in : {X : Type 0} (p : X → Bool) (xs : List X) (x : X) → IsIn x xs → p x ≡ true → list_any p xs ≡ true
-any_in p [] x h passes = absurd h
-any_in p (y ∷ ys) x (inl e) passes = let here : p y ≡ true = subst (λ (z : _). p z ≡ true) e passes in grind arith
-any_in p (y ∷ ys) x (inr h) passes = let rest : list_any p ys ≡ true = any_in p ys x h passes in grind arith
-
-pub all_in : {K X : Type 0} (P : K → Type 0) (es : List (K × X)) (e : K × X) → All P (keys_of es) → IsIn e es → P e.0
-all_in P [] e all h = absurd h
-all_in P (f ∷ es) e all (inl same) = subst (λ (g : _). P g.0) (sym same) (all 0 f.0 (omega arith))
-all_in P (f ∷ es) e all (inr h) = all_in P es e (λ k d lt. all (suc k) d (omega arith)) h
+pub of_keys : {K X : Type 0} (P : K → Type 0) (es : List (K × X)) (e : K × X) → All P (keys_of es) → IsIn e es → P e.0
+of_keys P [] e all h = absurd h
+of_keys P (f ∷ es) e all (inl same) = subst (λ (g : _). P g.0) (sym same) (all 0 f.0 (omega arith))
+of_keys P (f ∷ es) e all (inr h) = of_keys P es e (λ k d lt. all (suc k) d (omega arith)) h
 
 -- a map after one more entry, whose key is new
 
@@ -147,7 +118,7 @@ pub least_left : (calls : Calls) (es : List (Key × Command)) (p : Key × Comman
 least_left calls es p holds once here low =
     let there : IsIn (entry_of p) (left calls) = (holds (entry_of p)).1 here in (
       there,
-      each_from (λ (e : Entry). (e ≡ entry_of p) ⊎ (key_lt p.0 e.key ≡ true)) (left calls) (λ (e : Entry) h. elim (at_most p.0 e.key (low (pair_of e) ((holds e).0 h))) [
+      each_of (λ (e : Entry). (e ≡ entry_of p) ⊎ (key_lt p.0 e.key ≡ true)) (left calls) (λ (e : Entry) h. elim (at_most p.0 e.key (low (pair_of e) ((holds e).0 h))) [
         | inl same ↦ let id : e.key.id ≡ p.0.id = ap (λ (k : Key). k.id) (sym same) in inl (once e (entry_of p) (left_put calls e h).0 (left_put calls (entry_of p) there).0 id)
         | inr less ↦ inr less
       ]),
@@ -274,7 +245,7 @@ pop_least calls es rest None holds once some is above = none_left calls es holds
 pop_least calls es rest (Some p) holds once some is above =
     let here : IsIn p es = subst (λ (l : List (Key × Command)). IsIn p l) (sym is) (inl refl) in
     let low : (e : Key × Command) → IsIn e es → is_gt (key_cmp p.0 e.0) ≡ false = λ e h.
-    least_first p rest (λ f i. all_in (λ k. key_cmp p.0 k ≡ Less) rest f above i) e (subst (λ (l : List (Key × Command)). IsIn e l) is h) in
+    least_first p rest (λ f i. of_keys (λ k. key_cmp p.0 k ≡ Less) rest f above i) e (subst (λ (l : List (Key × Command)). IsIn e l) is h) in
     least_left calls es p holds once here low
 
 pub pop_after : (q q' : Queue) (calls : Calls) (r : Option (Key × Command)) → IsAfter q calls → q'.ids ≡ q.ids
@@ -288,7 +259,7 @@ pop_after q q' calls None after ids is above same = record {
 }
 pop_after q q' calls (Some p) after ids is above same = record {
   ids = subst (λ i. (id : CommandId) → has same_id id i.keys ≡ was_put id calls) (sym ids) after.ids;
-  waiting = taken_left calls q.waiting.entries q'.waiting.entries p after.waiting after.once is (λ e h. all_in (λ k. key_cmp p.0 k ≡ Less) q'.waiting.entries e above h);
+  waiting = taken_left calls q.waiting.entries q'.waiting.entries p after.waiting after.once is (λ e h. of_keys (λ k. key_cmp p.0 k ≡ Less) q'.waiting.entries e above h);
   once = after.once;
   taken = taken_was_put calls q.waiting.entries p after.waiting (subst (λ (l : List (Key × Command)). IsIn p l) (sym is) (inl refl)) after.taken;
 }
