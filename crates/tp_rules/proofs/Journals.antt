@@ -12,7 +12,7 @@ use Rattle.tp_base.specs.Tables.{nth}
 use Rattle.tp_base.specs.declared.names.ActorName.{ActorName}
 use Rattle.tp_rules.specs.Journal.{act_of, acts, numbered, output_at, sent, with_act}
 use Rattle.tp_rules.specs.Pending.{IsPicked, IsPickedHistory, IsPickedRun}
-use Rattle.tp_rules.specs.Runs.{FollowsRules, IsFreeHistory, IsFreeRun, IsHistory, IsLegal, IsRun}
+use Rattle.tp_rules.specs.Runs.{IsFreeHistory, IsFreeRun, IsHistory, IsLegal, IsRun}
 use Rattle.tp_rules.specs.declared.event.Entry.{Entry}
 use Rattle.tp_script.specs.declared.script.Script.{Script}
 use Rattle.tp_wire.specs.declared.message.Message.{Message}
@@ -27,15 +27,6 @@ pub run_more : (script : Script) (journal : List Entry) (e : Entry)
     → IsRun script journal → IsLegal script (reverse journal) e → IsRun script (journal ++ e ∷ [])
 unfolding IsRun
 run_more script journal e run legal = subst (IsHistory script) (sym (reverse_push journal e)) (run, legal)
-
-pub free_run_none : (script : Script) → IsFreeRun script []
-unfolding IsFreeRun
-free_run_none script = tt
-
-pub free_run_more : (script : Script) (journal : List Entry) (e : Entry)
-    → IsFreeRun script journal → FollowsRules script (reverse journal) e → IsFreeRun script (journal ++ e ∷ [])
-unfolding IsFreeRun
-free_run_more script journal e run follows = subst (IsFreeHistory script) (sym (reverse_push journal e)) (run, follows)
 
 pub picked_run_none : (script : Script) → IsPickedRun script []
 unfolding IsPickedRun

@@ -1,6 +1,7 @@
 pub mod ActsMore
 pub mod Histories
 pub mod Journals
+pub mod LeastKey
 pub mod OwnSteps
 pub mod ends
 pub mod fit

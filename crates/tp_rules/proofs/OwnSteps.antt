@@ -1,8 +1,11 @@
 -- Which steps of its own an actor may make: a session submits its next command, a process announces, an executor declares
 -- its least waiting command, or executes it. Used where a step of a journal is to be known by its actor.
-use Rattle.std.proofs.Common.{◌≡◌, ◌⊎◌, ℕ, ◌+◌, ◌<◌, inl, inr, true, cond, List, Option, Some, None, length, refl}
-use Rattle.std.specs.Prelude.{◌&&◌, nat_lt}
+use Rattle.std.proofs.Common.{List, None, Option, Some, [], ap, cond, false, inl, inr, length, refl, true, ℕ, ◌+◌, ◌<◌, ◌∷◌, ◌≡◌, ◌⊎◌}
+use Rattle.std.specs.Prelude.{nat_lt, not, ◌&&◌}
 use Rattle.std.proofs.lemmas.Bool.{cond_both, ltb-true, and_parts}
+use Rattle.std.specs.List.{list_all}
+use Rattle.tp_base.specs.Lists.{has}
+use Rattle.tp_base.specs.Names.{same_id}
 use Rattle.tp_base.specs.declared.names.ActorName.{ActorName}
 use Rattle.tp_base.specs.declared.names.ActorName.TheVariants.{Process, Executor, Session}
 use Rattle.tp_base.specs.declared.names.CommandId.{CommandId}
@@ -141,3 +144,10 @@ declare_may script older (Session s) id may =
     let parts =
     session_may script.topology (client_of script s) (session.state_after script.topology (client_of script s) (acts older (Session s)))
     (Declare id) may in absurd (let wrong = parts.0 in cc)
+
+-- what is ready is declared
+pub ready_declared : (state : executor.ExecutorState) (id : CommandId) (others : List ℕ) → executor.is_ready state id others ≡ true
+    → executor.is_undeclared state id others ≡ false
+ready_declared state id [] h = refl
+ready_declared state id (q ∷ qs) h =
+    ap not (and_parts (has same_id id state.declared) (list_all (executor.is_heard state id) (q ∷ qs)) h).0

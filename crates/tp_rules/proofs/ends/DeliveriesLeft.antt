@@ -4,6 +4,7 @@ use Rattle.std.proofs.Common.{◌≡◌, ℕ, suc, ◌<◌, ◌≤◌, inl, inr,
 use Rattle.std.specs.Prelude.{filter_map, ◌==◌, ◌||◌, ◌&&◌}
 use Rattle.std.specs.List.{list_any}
 use Rattle.std.proofs.lemmas.Bool.{cases_Bool, eq-eqb, and_from, or_left, or_right, cond-true, cond-false, cond_both}
+use Rattle.tp_base.proofs.Options.{some_is}
 use Rattle.tp_base.specs.Lists.{IsIn, Each}
 use Rattle.tp_base.specs.Names.{same_name}
 use Rattle.tp_base.specs.declared.names.ActorName.{ActorName}
@@ -121,14 +122,11 @@ for_all_few script (RecoverLine site id after) times h e = absurd cc
 for_all_few script (Lose from to n) times h e = absurd cc
 for_all_few script (Repeat from to n k) times h e = absurd cc
 
-some_parts : {m n : ℕ} → Some m ≡ Some n → m ≡ n
-some_parts e = cc
-
 repeated_few : (script : Script) (from to : ActorName) (n : ℕ) (line : PlanLine) (times : ℕ) → IsPlanLineOf script line →
     repeated_by from to n line ≡ Some times → times ≤ 9
 repeated_few script from to n (Repeat a b ordinal k) times h e = elim (cases_Bool (same_name a from && same_name b to && (ordinal == n))) [
   | inl t ↦ let same : k ≡ times =
-      some_parts (sym (cond-true (same_name a from && same_name b to && (ordinal == n)) (Some k) None t) ∙ e) in omega (arith, h.4)
+      some_is (sym (cond-true (same_name a from && same_name b to && (ordinal == n)) (Some k) None t) ∙ e) in omega (arith, h.4)
   | inr f ↦ let nothing : None ≡ Some times = sym (cond-false (same_name a from && same_name b to && (ordinal == n)) (Some k) None f) ∙ e in absurd cc
 ]
 repeated_few script from to n (RepeatAll k) times h e = absurd cc

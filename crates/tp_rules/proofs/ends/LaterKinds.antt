@@ -5,11 +5,9 @@ use Rattle.std.specs.Prelude.{◌==◌, ◌&&◌, not}
 use Rattle.std.proofs.lemmas.Bool.{cond_both}
 use Rattle.tp_base.specs.Lists.{Each, has}
 use Rattle.tp_base.specs.Names.{same_id, same_name}
-use Rattle.tp_base.specs.Tables.{nth}
 use Rattle.tp_base.specs.declared.names.ActorName.{ActorName}
 use Rattle.tp_base.specs.declared.names.ActorName.TheVariants.{Process, Executor, Session}
 use Rattle.tp_base.specs.declared.names.Site.{Site}
-use Rattle.tp_ops.specs.declared.command.Command.{Command}
 use Rattle.tp_rules.specs.Acts.{Act, Took, Client}
 use Rattle.tp_rules.specs.Addresses.{rank_of, partition_of, is_name_of, is_body_at}
 use Rattle.tp_rules.specs.Executor as executor
@@ -134,15 +132,6 @@ declarations_are_later shape me state = of_least (executor.least (executor.waiti
     of_least : (o : Option executor.Committed) → Each (IsAfter 13) (executor.declare_least shape me o state).1
     of_least None = tt
     of_least (Some c) = each_to (IsAfter 13) (Executor me) _ (MStable c.command.id) (λ to. omega arith)
-
--- a submission sends submissions
-pub submissions_are_later : (shape : Shape) (client : Client) (n : ℕ) (state : session.SessionState) →
-    Each (IsAfter 1) (session.on_submit shape client n state).1
-submissions_are_later shape client n state = of_command (nth client.commands n)
-  where
-    of_command : (o : Option Command) → Each (IsAfter 1) (session.submissions shape client o)
-    of_command None = tt
-    of_command (Some c) = each_to (IsAfter 1) (Session client.session) _ (MSubmit c) (λ to. omega arith)
 
 -- at a delivery to any actor
 pub sends_later : (script : Script) (actor : ActorName) (before : List Act) (m : Message) →

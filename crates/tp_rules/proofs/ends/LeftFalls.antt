@@ -3,6 +3,7 @@ use Rattle.std.proofs.Common.{◌≡◌, ℕ, ◌+◌, ◌<◌, ◌≤◌, inl, 
 use Rattle.std.specs.Prelude.{option_map}
 use Rattle.tp_base.specs.Lists.{Each}
 use Rattle.tp_base.proofs.Each.{each_weaker}
+use Rattle.tp_base.proofs.Options.{some_is}
 use Rattle.tp_base.specs.declared.names.ActorName.{ActorName}
 use Rattle.tp_base.specs.declared.names.ActorName.TheVariants.{Process, Executor, Session}
 use Rattle.tp_base.specs.declared.names.CommandId.{CommandId}
@@ -80,9 +81,6 @@ from_4 script older = undelivered script older 4 ∷ from_5 script older
 
 abbrev from_3 : Script → List Entry → List ℕ
 from_3 script older = undelivered script older 3 ∷ from_4 script older
-
-some_act : {a b : Act} → Some a ≡ Some b → a ≡ b
-some_act e = cc
 
 for_some : (actor : ActorName) (o : Option Message) → IsFor actor o → (m : Message) × (o ≡ Some m)
 for_some actor None h = absurd h
@@ -224,7 +222,7 @@ module _ (script : Script) (accepted : IsAccepted script) (older : List Entry) (
       let sent_once = output_sent older entry place m is in
       let one_less = delivery_falls script older e p sent_once event (fate m is).0 (fate m is).1 in
       by_body m.body later (undelivered_falls script older e p later sent_once (omega arith))
-      (λ high act same. let which : Took m ≡ act = some_act (sym takes ∙ same) in subst AddsNone which high)
+      (λ high act same. let which : Took m ≡ act = some_is (sym takes ∙ same) in subst AddsNone which high)
 
   -- a loss
   dropped : IsLegal script older e → (entry place : ℕ) → e.event ≡ Dropped entry place → (m : Message) → output_at older entry place ≡ Some m →
@@ -278,7 +276,7 @@ module _ (script : Script) (accepted : IsAccepted script) (older : List Entry) (
       let later : Each (IsAfter 13) e.outputs =
       subst (Each (IsAfter 13)) (sym (sends legal.rules (Some (Did (Declare id))) does)) (declares_later e.actor (acts older e.actor) id) in
       let silent : (act : Act) → act_of older e.event ≡ Some act → AddsNone act =
-      (λ act same. let which : Did (Declare id) ≡ act = some_act (sym does ∙ same) in subst AddsNone which tt) in
+      (λ act same. let which : Did (Declare id) ≡ act = some_is (sym does ∙ same) in subst AddsNone which tt) in
       lowers_13 13 later silent (omega arith)
       (inl (undeclared_falls script older e id (free_history script older history) legal.rules event, rises_14))
   by_itself history legal (Execute id) event =
@@ -286,7 +284,7 @@ module _ (script : Script) (accepted : IsAccepted script) (older : List Entry) (
       let later : Each (IsAfter 15) e.outputs =
       subst (Each (IsAfter 15)) (sym (sends legal.rules (Some (Did (Execute id))) does)) (executes_later e.actor (acts older e.actor) id) in
       let silent : (act : Act) → act_of older e.event ≡ Some act → AddsNone act =
-      (λ act same. let which : Did (Execute id) ≡ act = some_act (sym does ∙ same) in subst AddsNone which tt) in
+      (λ act same. let which : Did (Execute id) ≡ act = some_is (sym does ∙ same) in subst AddsNone which tt) in
       lowers_15 15 later silent (omega arith)
       (inl (unexecuted_falls script older e id (free_history script older history) legal.rules event, rises_16))
 

@@ -7,6 +7,7 @@ use Rattle.tp_base.specs.Limits.{STAMP_LIMIT, is_from}
 use Rattle.tp_base.specs.Lists.{IsIn}
 use Rattle.tp_base.specs.Names.{same_name}
 use Rattle.tp_base.proofs.Members.{map_in, flat_in}
+use Rattle.tp_base.proofs.Options.{some_is}
 use Rattle.tp_base.specs.declared.names.ActorName.{ActorName}
 use Rattle.tp_base.specs.declared.names.ActorName.TheVariants.{Process}
 use Rattle.tp_base.specs.declared.names.Site.{Site}
@@ -47,7 +48,7 @@ site_listed script s e =
     flat_in (ranks_of script) (up_to script.topology.partitions) p s
     (in_up_to script.topology.partitions p (leb-true 1 p ps.0) (leb-true p script.topology.partitions ps.1)) here
 
-sites_few : (script : Script) → IsShape script.topology → length (sites_of script) ≤ 28
+pub sites_few : (script : Script) → IsShape script.topology → length (sites_of script) ≤ 28
 sites_few script good =
     let ranks : (p : ℕ) → length (ranks_of script p) ≤ 7 =
     (λ p. omega (arith, map_length (site p) (up_to script.topology.replicas), length-up_to script.topology.replicas, good.few_replicas)) in
@@ -132,9 +133,6 @@ announced_all shape me state =
     cond_both (nat_lt state.told state.clock) (next, process.announced shape me state) (state, []) (λ (moved : process.Step). untold moved.0 ≡ false)
     (λ t. le-ltb state.clock state.clock (omega arith)) (λ f. f)
 
-some_act : {a b : Act} → Some a ≡ Some b → a ≡ b
-some_act e = cc
-
 falls_at : (script : Script) (older : List Entry) (e : Entry) (s : Site) → e.actor ≡ Process s → is_site_of script.topology s ≡ true →
     e.event ≡ OfItself Announce →
     has_untold script older s ≡ true → unannounced script (e ∷ older) < unannounced script older
@@ -146,7 +144,7 @@ falls_at script older e s actor listed event before =
     ap (λ (l : List Act). untold (process.state_after quorum_rule s l)) list ∙ announced_all script.topology s
     (process.state_after quorum_rule s (acts older (Process s))) in
     let none : (act : Act) → act_of older e.event ≡ Some act → AddsNone act =
-    (λ act is. let same : Did Announce ≡ act = some_act (sym (ap (act_of older) event) ∙ is) in subst AddsNone same tt) in
+    (λ act is. let same : Did Announce ≡ act = some_is (sym (ap (act_of older) event) ∙ is) in subst AddsNone same tt) in
     one_fewer (has_untold script older) (has_untold script (e ∷ older)) (sites_of script) s (λ x there. untold_before script older e x none)
     (site_listed script s listed) before told
 

@@ -6,6 +6,7 @@ use Rattle.std.proofs.lemmas.Bool.{and_parts, cond_both, or_left, or_right, not-
 use Rattle.tp_base.specs.Lists.{IsIn, has}
 use Rattle.tp_base.specs.Names.{key_lt, same_id, same_name}
 use Rattle.tp_base.proofs.Each.{each_in}
+use Rattle.tp_base.proofs.Options.{some_is}
 use Rattle.tp_base.proofs.SameNames.{same_id_refl}
 use Rattle.tp_base.specs.declared.names.ActorName.{ActorName}
 use Rattle.tp_base.specs.declared.names.ActorName.TheVariants.{Executor}
@@ -129,13 +130,10 @@ lesser_is : (c : executor.Committed) (o : Option executor.Committed) → (execut
 lesser_is c None = inl refl
 lesser_is c (Some d) = cond_both (key_lt d.key c.key) d c (λ (x : executor.Committed). (x ≡ c) ⊎ (Some d ≡ Some x)) (λ e. inr refl) (λ e. inl refl)
 
-some_committed : {c d : executor.Committed} → Some c ≡ Some d → c ≡ d
-some_committed e = cc
-
 pub least_in : (cs : List executor.Committed) (c : executor.Committed) → executor.least cs ≡ Some c → IsIn c cs
 least_in [] c e = absurd cc
 least_in (x ∷ xs) c e =
-    let same : executor.lesser x (executor.least xs) ≡ c = some_committed e in
+    let same : executor.lesser x (executor.least xs) ≡ c = some_is e in
     elim (lesser_is x (executor.least xs)) [
       | inl first ↦ inl (sym same ∙ first)
       | inr later ↦ inr (least_in xs c (later ∙ ap (λ (y : executor.Committed). Some y) same))

@@ -6,6 +6,7 @@ use Rattle.std.proofs.lemmas.Bool.{cond_both, eq-eqb, eqb-true, and_parts, and_f
 use Rattle.tp_base.specs.Lists.{IsIn}
 use Rattle.tp_base.specs.Names.{same_name}
 use Rattle.tp_base.proofs.Members.{in_get}
+use Rattle.tp_base.proofs.Options.{some_is}
 use Rattle.tp_base.proofs.SameNames.{same_name_refl, same_name_is}
 use Rattle.tp_base.specs.declared.names.ActorName.{ActorName}
 use Rattle.tp_base.specs.declared.names.ActorName.TheVariants.{Session}
@@ -65,7 +66,7 @@ row_keeps_submitted shape client (MPromises lo hi pairs) state = refl
 row_keeps_submitted shape client (MCommitted c t) state = refl
 row_keeps_submitted shape client (MStable id) state = refl
 
-message_keeps_submitted : (shape : Shape) (client : Client) (m : Message) (state : session.SessionState) →
+pub message_keeps_submitted : (shape : Shape) (client : Client) (m : Message) (state : session.SessionState) →
     (session.react shape client (Took m) state).0.submitted ≡ state.submitted
 message_keeps_submitted shape client m state =
     cond_both (same_name m.to (Session client.session) && is_name_of shape m.from && is_body_at shape 0 m.body)
@@ -112,7 +113,7 @@ submitted_grows script older e s follows =
     (Session s) (omega arith)
     (λ act same is. by_event script older s e.event act (subst (λ (a : ActorName). MayHappen script older a e.event) same follows.may) is)
 
-submit_event : (n : ℕ) (event : Event) → is_submit n event ≡ true → event ≡ OfItself (Submit n)
+pub submit_event : (n : ℕ) (event : Event) → is_submit n event ≡ true → event ≡ OfItself (Submit n)
 submit_event n (Deliver entry place) e = absurd cc
 submit_event n (Dropped entry place) e = absurd cc
 submit_event n (OfItself (Submit m)) e = ap (λ (k : ℕ). OfItself (Submit k)) (sym (eqb-true n m e))
@@ -139,9 +140,6 @@ submitted_covers script (x ∷ older) id h e = elim (or_cases (is_submission_of 
   | inr later ↦ omega (arith, submitted_covers script older id h.0 later, submitted_grows script older x id.session h.1)
 ]
 
-some_parts : {m n : ℕ} → Some m ≡ Some n → m ≡ n
-some_parts e = cc
-
 -- the commands of a session are numbered from 1
 pub command_numbered : (script : Script) → IsAccepted script → (s : SessionId) (k : ℕ) → k < length (commands_of script s) →
     (c : Command) × IsIn c script.commands × (c.id.session ≡ s) × (c.id.number ≡ suc k)
@@ -156,7 +154,7 @@ command_numbered script accepted s k less = of_found (get_there (commands_of scr
         let one : slice_get (map (λ (d : Command). d.id.number) cs) k ≡ Some c.id.number = get_map (λ (d : Command). d.id.number) cs k c e in
         let two : slice_get (up_to (length cs)) k ≡ Some (suc k) = get_up_to (length cs) k less in
         let member = filter_in (λ (d : Command). d.id.session.0 == s.0) script.commands c (in_get cs k c e) in
-        (c, member.0, ap (λ (i : ℕ). let id : SessionId = record { 0 = i } in id) (eqb-true c.id.session.0 s.0 member.1), some_parts (sym one ∙ numbers ∙ two))
+        (c, member.0, ap (λ (i : ℕ). let id : SessionId = record { 0 = i } in id) (eqb-true c.id.session.0 s.0 member.1), some_is (sym one ∙ numbers ∙ two))
 
 falls_by : (script : Script) (older : List Entry) (e : Entry) (s : SessionId) (c : Command) (n : ℕ) → IsFreeHistory script older →
     e.actor ≡ Session s → e.event ≡ OfItself

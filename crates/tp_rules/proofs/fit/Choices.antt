@@ -7,8 +7,10 @@ use Rattle.std.proofs.lemmas.List.{length-replicate}
 use Rattle.std.specs.List.{list_any}
 use Rattle.std.specs.Prelude.{nat_lt, slice_get, ◌||◌, ◌==◌}
 use Rattle.tp_base.proofs.Each.{each_in, each_weaker}
+use Rattle.tp_base.proofs.Tables.{length_with}
 use Rattle.tp_base.specs.Lists.{Each, IsIn}
 use Rattle.tp_base.specs.Tables.{flat, kept_at, with_nth}
+use Rattle.tp_choice.proofs.Cases.{greatest_over}
 use Rattle.tp_choice.specs.Choosing.{best_from, better, chosen_of_proposals, chosen_with, greatest_by, is_over, member_stamp, recovery_choice, tells_slow}
 use Rattle.tp_choice.specs.declared.answer.RecoveryAnswer.{RecoveryAnswer}
 use Rattle.tp_ops.specs.declared.command.Command.{Command}
@@ -102,16 +104,16 @@ present_counted (o ∷ table) (suc n) few =
     go None le = omega (arith, le)
     go (Some x) le = omega (arith, le)
 
-present_got : {X : Type 0} (table : List (Option X)) (i : ℕ) (x : X) → flat (slice_get table i) ≡ Some x → IsIn x (present table)
-present_got [] i x e = absurd cc
-present_got (None ∷ table) zero x e = absurd cc
-present_got (Some y ∷ table) zero x e = inl (cc)
-present_got (None ∷ table) (suc i) x e = present_got table i x e
-present_got (Some y ∷ table) (suc i) x e = inr (present_got table i x e)
+got_present : {X : Type 0} (table : List (Option X)) (i : ℕ) (x : X) → flat (slice_get table i) ≡ Some x → IsIn x (present table)
+got_present [] i x e = absurd cc
+got_present (None ∷ table) zero x e = absurd cc
+got_present (Some y ∷ table) zero x e = inl (cc)
+got_present (None ∷ table) (suc i) x e = got_present table i x e
+got_present (Some y ∷ table) (suc i) x e = inr (got_present table i x e)
 
-present_kept : {X : Type 0} (table : List (Option X)) (place : ℕ) (x : X) → kept_at table place ≡ Some x → IsIn x (present table)
+pub present_kept : {X : Type 0} (table : List (Option X)) (place : ℕ) (x : X) → kept_at table place ≡ Some x → IsIn x (present table)
 present_kept table zero x e = absurd cc
-present_kept table (suc i) x e = present_got table i x e
+present_kept table (suc i) x e = got_present table i x e
 
 -- a table of answers, each in its rank's place and in range
 pub record AreAnswers (replicas : ℕ) (answers : List (Option RecoveryAnswer)) : Type 0 where
@@ -144,11 +146,6 @@ pub greatest_by_low : (f : RecoveryAnswer → ℕ) (answers : List RecoveryAnswe
 greatest_by_low f [] n h = omega arith
 greatest_by_low f (a ∷ answers) n h = let rest = greatest_by_low f answers n h.1 in omega (arith, rest, h.0)
 
-greatest_by_high : (f : RecoveryAnswer → ℕ) (answers : List RecoveryAnswer) (a : RecoveryAnswer) → IsIn a answers → f a ≤ greatest_by f answers
-greatest_by_high f [] a h = absurd h
-greatest_by_high f (b ∷ answers) a (inl e) = let same : f a ≡ f b = ap f e in omega (arith, same)
-greatest_by_high f (b ∷ answers) a (inr h) = let rest = greatest_by_high f answers a h in omega (arith, rest)
-
 better_fit : (P : RecoveryAnswer → Type 0) (a : RecoveryAnswer) (found : Option RecoveryAnswer) → P a → IfAny P found → P (better a found)
 better_fit P a None h k = h
 better_fit P a (Some b) h k = cond_both (is_over a b) a b P (λ t. h) (λ f. k)
@@ -174,13 +171,13 @@ proposals_number in_quorum home answers a all there member =
     let one : IsStamped a = each_in IsStamped answers a all there in
     cond_both (list_any (tells_slow in_quorum home) answers) (greatest_by (λ a. a.stamp.0) answers) (greatest_by (member_stamp in_quorum) answers) IsNumber
     (λ t.
-    let high : a.stamp.0 ≤ greatest_by (λ a. a.stamp.0) answers = greatest_by_high (λ a. a.stamp.0) answers a there in
+    let high : a.stamp.0 ≤ greatest_by (λ a. a.stamp.0) answers = greatest_over (λ a. a.stamp.0) answers a there in
     let low : greatest_by (λ a. a.stamp.0) answers ≤ 2 ^ 48 - 1 = greatest_by_low (λ a. a.stamp.0) answers (2 ^ 48 - 1)
     (each_weaker IsStamped (λ a. a.stamp.0 ≤ 2 ^ 48 - 1) (λ a h. h.1) answers all) in
     (omega (arith, high, one.0), low))
     (λ f.
     let some : 1 ≤ member_stamp in_quorum a = member_stamp_high in_quorum a member one in
-    let high : member_stamp in_quorum a ≤ greatest_by (member_stamp in_quorum) answers = greatest_by_high (member_stamp in_quorum) answers a there in
+    let high : member_stamp in_quorum a ≤ greatest_by (member_stamp in_quorum) answers = greatest_over (member_stamp in_quorum) answers a there in
     let low : greatest_by (member_stamp in_quorum) answers ≤ 2 ^ 48 - 1 = greatest_by_low (member_stamp in_quorum) answers (2 ^ 48 - 1)
     (each_weaker IsStamped (λ a. member_stamp in_quorum a ≤ 2 ^ 48 - 1) (λ a h. member_stamp_low in_quorum a h) answers all) in
     (omega (arith, high, some), low))
@@ -212,15 +209,6 @@ recovery_number s sized c answers is some few are as_many =
 
 -- one answer more
 
-set_length : {X : Type 0} (xs : List X) (i : ℕ) (x : X) → length (set xs i x) ≡ length xs
-set_length [] i x = refl
-set_length (y ∷ ys) zero x = refl
-set_length (y ∷ ys) (suc i) x = ap (λ (n : ℕ). suc n) (set_length ys i x)
-
-with_nth_length : {X : Type 0} (xs : List X) (place : ℕ) (x : X) → length (with_nth xs place x) ≡ length xs
-with_nth_length xs zero x = refl
-with_nth_length xs (suc i) x = set_length xs i x
-
 empty_got : {X : Type 0} (P : X → Type 0) (n i : ℕ) → IfAny P (flat (slice_get (replicate n (let none : Option X = None in none)) i))
 empty_got P zero i = tt
 empty_got P (suc n) zero = tt
@@ -248,7 +236,7 @@ with_nth_kept P table (suc i) (suc k) x new old = set_got P table i k x (λ e. n
 pub answered : (replicas : ℕ) (answers : List (Option RecoveryAnswer)) (a : RecoveryAnswer) → IsNumber a.stamp.0 → AreAnswers replicas answers
     → AreAnswers replicas (with_nth answers a.rank.0 (Some a))
 answered replicas answers a number are = record {
-  few = let same : length (with_nth answers a.rank.0 (Some a)) ≡ length answers = with_nth_length answers a.rank.0 (Some a) in omega (arith, same, are.few);
+  few = let same : length (with_nth answers a.rank.0 (Some a)) ≡ length answers = length_with answers a.rank.0 (Some a) in omega (arith, same, are.few);
   numbers = with_fit (IfAny IsStamped) answers a.rank.0 (Some a) are.numbers number;
   placed = λ k. with_nth_kept (λ (b : RecoveryAnswer). b.rank.0 ≡ k) answers a.rank.0 k a (λ e. e) (are.placed k);
 }

@@ -6,6 +6,7 @@ use Rattle.std.specs.Prelude.{filter, not, ◌==◌, ◌&&◌}
 use Rattle.std.specs.Str.{bytes_eq}
 use Rattle.tp_base.proofs.Each.{each_in, each_weaker}
 use Rattle.tp_base.proofs.Ranges.{range_in}
+use Rattle.tp_base.proofs.Tests.{filter_length}
 use Rattle.tp_base.specs.Limits.{IsFrom, is_from}
 use Rattle.tp_base.specs.Lists.{Each, has}
 use Rattle.tp_base.specs.Names.{key_lt, same_id, same_name}
@@ -21,7 +22,7 @@ use Rattle.tp_ops.specs.declared.command.Command.{Command}
 use Rattle.tp_ops.specs.declared.operation.Op.{Op}
 use Rattle.tp_ops.specs.declared.operation.Op.TheVariants.{Get, Put, Del, Cas}
 use Rattle.tp_rules.proofs.fit.Messages.{IsBodyOf, IsCommandHere, IsExecutorOf, IsFit, IsFitAct, command_in_range, each_executor, each_other_accessed, site_in_range, site_is}
-use Rattle.tp_rules.proofs.lists.Selections.{IfAny, each_filter, each_image, each_spread, filter_shorter, filter_some}
+use Rattle.tp_rules.proofs.lists.Selections.{IfAny, each_filter, each_image, each_spread, filter_some}
 use Rattle.tp_rules.specs.Acts.{Act, Took, Did}
 use Rattle.tp_rules.specs.Addresses.{executors_of, is_body_at, is_name_of, message, others_accessed, partition_of, rank_of}
 use Rattle.tp_rules.specs.Executor.{Committed, ExecutorState, Step, committed_ids, declarations, declare_least, execute_least, executed, least, lesser, on_body, on_committed, on_promises, on_stable, react, state_after, waiting}
@@ -72,7 +73,7 @@ answers_fit [] contents of h = tt
 answers_fit (op ∷ ops) contents of h =
     (answer_fit op contents h, answers_fit ops (after op contents) of.1 (after_fit op contents of.0 h))
 
-answers_many : (ops : List Op) (contents : Contents) → length (answers_of ops contents) ≡ length ops
+pub answers_many : (ops : List Op) (contents : Contents) → length (answers_of ops contents) ≡ length ops
 answers_many [] contents = refl
 answers_many (op ∷ ops) contents = ap (λ (n : ℕ). suc n) (answers_many ops (after op contents))
 
@@ -85,7 +86,7 @@ ops_fit partitions p c of = each_filter IsOp (is_on partitions p) c.ops of.3
 ops_many : (partitions p : ℕ) (c : Command) → IsCommand c → is_accessed partitions c p ≡ true → IsFrom 1 16 (length (ops_on partitions p c.ops))
 unfolding ops_on is_accessed
 ops_many partitions p c of accesses =
-    let fewer : length (filter (is_on partitions p) c.ops) ≤ length c.ops = filter_shorter (is_on partitions p) c.ops in
+    let fewer : length (filter (is_on partitions p) c.ops) ≤ length c.ops = filter_length (is_on partitions p) c.ops in
     let few : IsFrom 1 16 (length c.ops) = of.2 in
     (filter_some (is_on partitions p) c.ops accesses, omega (arith, few.1))
 

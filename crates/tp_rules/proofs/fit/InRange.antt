@@ -6,7 +6,7 @@ use Rattle.std.specs.Prelude.{reverse}
 use Rattle.tp_base.proofs.Each.{each_weaker}
 use Rattle.tp_base.specs.Lists.{Each}
 use Rattle.tp_base.specs.declared.names.ActorName.TheVariants.{Process, Executor, Session}
-use Rattle.tp_rules.proofs.sent.EachSent.{HandsOn, entry_passes, history_passes, sent_passes}
+use Rattle.tp_rules.proofs.sent.EachSent.{HandsOn, history_passes, sent_passes}
 use Rattle.tp_rules.proofs.fit.Messages.{IsFit}
 use Rattle.tp_rules.proofs.fit.Executors.{executor_fit, executor_sound}
 use Rattle.tp_rules.proofs.fit.Choices.{HasFastSize, ring_has_fast_size}
@@ -17,7 +17,7 @@ use Rattle.tp_rules.specs.Executor as executor
 use Rattle.tp_rules.specs.Journal.{client_of, is_known, sent}
 use Rattle.tp_rules.specs.Process as process
 use Rattle.tp_rules.specs.Session as session
-use Rattle.tp_rules.specs.Runs.{AreInRange, FollowsRules, IsFreeHistory, IsFreeRun}
+use Rattle.tp_rules.specs.Runs.{AreInRange, IsFreeHistory, IsFreeRun}
 use Rattle.tp_rules.specs.Sheet.{QuorumRule, ring_rule}
 use Rattle.tp_rules.specs.declared.event.Entry.{Entry}
 use Rattle.tp_rules.specs.declared.event.Parcel.{Parcel}
@@ -37,11 +37,6 @@ module _ (script : Script) (accepted : IsAccepted script) where
       (executor_sound script accepted me known before took)).1
   fit_handed_on (Session s) before act known took takes =
       session_fit script accepted s known act (session.state_after script.topology (client_of script s) before)
-
-  -- what the next entry sends
-  pub entry_in_range : (older : List Entry) (e : Entry) → IsFreeHistory script older → FollowsRules script older e → Each IsInRange e.outputs
-  entry_in_range older e history follows = each_weaker (IsFit script) IsInRange (λ m fit. fit.range) e.outputs
-      (entry_passes script (IsFit script) fit_handed_on older e (history_passes script (IsFit script) fit_handed_on older history) follows)
 
   pub sent_fit : (older : List Entry) → IsFreeHistory script older → Each (λ parcel. IsFit script parcel.message) (sent older)
   sent_fit older history = sent_passes script (IsFit script) older (history_passes script (IsFit script) fit_handed_on older history)

@@ -6,6 +6,7 @@ use Rattle.std.specs.List.{flat_map}
 use Rattle.std.specs.Prelude.{filter, nat_lt, not, ◌==◌}
 use Rattle.tp_base.proofs.Each.{each_in, each_weaker}
 use Rattle.tp_base.proofs.Members.{in_map}
+use Rattle.tp_base.proofs.Tests.{filter_length}
 use Rattle.tp_base.specs.Limits.{IsFrom, IsId, IsSite}
 use Rattle.tp_base.specs.Lists.{Each, IsIn}
 use Rattle.tp_base.specs.Names.{same_name}
@@ -20,7 +21,7 @@ use Rattle.tp_rules.proofs.lists.Distinct.{distinct_within}
 use Rattle.tp_rules.proofs.fit.Messages.{IsCommandHere, IsExecutorOf, IsFit, IsProcessOf, site_known, command_in_range, each_accessed, each_executor, each_other_accessed, each_process, site_in_range, site_is}
 use Rattle.tp_rules.proofs.fit.Processes.{IsProcessSound, ids_of}
 use Rattle.tp_rules.proofs.fit.Promises.{untold_attached}
-use Rattle.tp_rules.proofs.lists.Selections.{IfAny, each_filter, each_image, each_spread, each_up_to, filter_shorter}
+use Rattle.tp_rules.proofs.lists.Selections.{IfAny, each_filter, each_image, each_spread, each_up_to}
 use Rattle.tp_rules.specs.Addresses.{accessed, executors_of, message, others_accessed, processes_of, site}
 use Rattle.tp_rules.specs.Process.{ProcessState, announced, asked, bumps, commit_messages, proposals, put_to_vote, commit_reply, untold}
 use Rattle.tp_rules.specs.Sheet.{QuorumRule}
@@ -158,7 +159,7 @@ module _ (script : Script) (accepted : IsAccepted script) (in_quorum : Command �
       let above : List Pair = filter (λ pair. nat_lt state.told pair.stamp.0) state.attached in
       let ids : List CommandId = map (λ pair. pair.id) state.attached in
       let turned : length (untold state) ≡ length above = length-reverse above in
-      let shorter : length above ≤ length state.attached = filter_shorter (λ pair. nat_lt state.told pair.stamp.0) state.attached in
+      let shorter : length above ≤ length state.attached = filter_length (λ pair. nat_lt state.told pair.stamp.0) state.attached in
       let as_many : length ids ≡ length state.attached = length-map state.attached (λ pair. pair.id) in
       let within : length ids ≤ length (ids_of script) = distinct_within ids (ids_of script) sound.once
       (λ id k.

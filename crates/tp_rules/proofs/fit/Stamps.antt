@@ -1,12 +1,12 @@
 -- Stamps in range, kept in tables: the greatest of those that are there is in range, if there are any.
-use Rattle.std.proofs.Common.{◌≡◌, ℕ, zero, suc, ◌≤◌, ◌^◌, ◌-◌, inl, inr, Bool, true, List, [], ◌∷◌, ◌++◌, length, Option, Some, None, refl, sym, subst, arith}
-use Rattle.std.proofs.lemmas.Bool.{cases_eq, cond_both, or_left, or_right}
+use Rattle.std.proofs.Common.{◌≡◌, ℕ, zero, suc, ◌≤◌, ◌^◌, ◌-◌, true, List, [], ◌∷◌, length, Option, Some, None, refl, arith}
+use Rattle.std.proofs.lemmas.Bool.{cond_both}
 use Rattle.std.proofs.lemmas.List.{length-map}
-use Rattle.std.specs.List.{list_all, list_any}
+use Rattle.std.specs.List.{list_all}
 use Rattle.std.specs.Prelude.{is_some}
-use Rattle.tp_base.proofs.Members.{in_left, in_push}
+use Rattle.tp_base.proofs.Tests.{any_in}
 use Rattle.tp_base.specs.Limits.{IsFrom}
-use Rattle.tp_base.specs.Lists.{Each, IsIn}
+use Rattle.tp_base.specs.Lists.{Each}
 use Rattle.tp_base.specs.Tables.{kept_at, with_nth}
 use Rattle.tp_ops.specs.Parts.{is_accessed}
 use Rattle.tp_ops.specs.declared.command.Command.{Command}
@@ -16,6 +16,7 @@ use Rattle.tp_quorum.specs.declared.choice.FastChoice.TheVariants.{Fast, Slow}
 use Rattle.tp_rules.proofs.lists.Selections.{IfAny, each_image, each_of_all, filter_some}
 use Rattle.tp_rules.specs.Addresses.{accessed}
 use Rattle.tp_rules.specs.Sheet.{Sheet, greatest_known, stamp_of, stamps_of}
+use Rattle.tp_topology.proofs.UpTo.{in_up_to}
 use Rattle.tp_topology.specs.Counting.{up_to}
 use Rattle.tp_topology.specs.Shape.{Shape}
 use Rattle.tp_wire.specs.Ranges.{IsNumber}
@@ -68,22 +69,10 @@ choice_number shape ns h some = cond_both (is_fast shape ns) (Fast (record { 0 =
 
 -- a final stamp
 
-in_up_to : (n k : ℕ) → IsFrom 1 n k → IsIn k (up_to n)
-in_up_to zero k of = absurd (omega (arith, of.0, of.1))
-in_up_to (suc n) k of = elim (cases_eq k (suc n)) [
-  | inl e ↦ subst (λ (j : ℕ). IsIn j (up_to n ++ suc n ∷ [])) (sym e) (in_push (up_to n) (suc n))
-  | inr apart ↦ in_left (up_to n) (suc n ∷ []) k (in_up_to n k (of.0, omega (arith, of.1)))
-]
-
-any_in : {X : Type 0} (test : X → Bool) (x : X) (xs : List X) → IsIn x xs → test x ≡ true → list_any test xs ≡ true
-any_in test x [] h e = absurd h
-any_in test x (y ∷ ys) (inl same) e = or_left (test y) (list_any test ys) (subst (λ (z : _). test z ≡ true) same e)
-any_in test x (y ∷ ys) (inr later) e = or_right (test y) (list_any test ys) (any_in test x ys later e)
-
 some_accessed : (shape : Shape) (c : Command) (p : ℕ) → IsFrom 1 shape.partitions p → is_accessed shape.partitions c p ≡ true
     → 1 ≤ length (accessed shape c)
 some_accessed shape c p of accesses = filter_some (is_accessed shape.partitions c) (up_to shape.partitions)
-    (any_in (is_accessed shape.partitions c) p (up_to shape.partitions) (in_up_to shape.partitions p of) accesses)
+    (any_in (is_accessed shape.partitions c) (up_to shape.partitions) p (in_up_to shape.partitions p of.0 of.1) accesses)
 
 pub final_number : (shape : Shape) (sheet : Sheet) (c : Command) (p : ℕ) → IsFrom 1 shape.partitions p → is_accessed shape.partitions c p ≡ true
     → Each (IfAny IsNumber) sheet.known → IfAny IsNumber (greatest_known (stamps_of shape sheet c))

@@ -47,12 +47,6 @@ pub each_replicate : {X : Type 0} (P : X → Type 0) (n : ℕ) (x : X) → P x �
 each_replicate P zero x h = tt
 each_replicate P (suc n) x h = (h, each_replicate P n x h)
 
-pub filter_shorter : {X : Type 0} (test : X → Bool) (xs : List X) → length (filter test xs) ≤ length xs
-filter_shorter test [] = omega arith
-filter_shorter test (x ∷ xs) =
-    let rest : length (filter test xs) ≤ length xs = filter_shorter test xs in
-    cond_both (test x) (x ∷ filter test xs) (filter test xs) (λ (ys : List _). length ys ≤ suc (length xs)) (λ t. omega arith) (λ f. omega arith)
-
 -- where some item passes, some are left
 pub filter_some : {X : Type 0} (test : X → Bool) (xs : List X) → list_any test xs ≡ true → 1 ≤ length (filter test xs)
 filter_some test [] h = absurd cc

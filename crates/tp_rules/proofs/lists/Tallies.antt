@@ -5,43 +5,13 @@ use Rattle.std.specs.Prelude.{filter}
 use Rattle.std.proofs.lemmas.Bool.{cases_Bool}
 use Rattle.tp_base.specs.Lists.{IsIn}
 use Rattle.tp_rules.specs.Left.{total}
-
-pub filter_yes : {X : Type 0} (p : X → Bool) (x : X) (xs : List X) → p x ≡ true → filter p (x ∷ xs) ≡ x ∷ filter p xs
-filter_yes p x xs e = rw e refl
-
-pub filter_no : {X : Type 0} (p : X → Bool) (x : X) (xs : List X) → p x ≡ false → filter p (x ∷ xs) ≡ filter p xs
-filter_no p x xs e = rw e refl
+pub use Rattle.tp_base.proofs.Tests.{filter_in, filter_length, filter_no, filter_none, filter_yes, in_filter}
 
 pub count_yes : {X : Type 0} (p : X → Bool) (x : X) (xs : List X) → p x ≡ true → length (filter p (x ∷ xs)) ≡ suc (length (filter p xs))
 count_yes p x xs e = ap length (filter_yes p x xs e)
 
 pub count_no : {X : Type 0} (p : X → Bool) (x : X) (xs : List X) → p x ≡ false → length (filter p (x ∷ xs)) ≡ length (filter p xs)
 count_no p x xs e = ap length (filter_no p x xs e)
-
-pub filter_in : {X : Type 0} (p : X → Bool) (xs : List X) (x : X) → IsIn x (filter p xs) → IsIn x xs × (p x ≡ true)
-filter_in p [] x h = absurd h
-filter_in p (y ∷ ys) x h = elim (cases_Bool (p y)) [
-  | inl e ↦ let k : IsIn x (y ∷ filter p ys) = subst (IsIn x) (filter_yes p y ys e) h in elim k [
-    | inl same ↦ (inl same, ap p same ∙ e)
-    | inr later ↦ let rest = filter_in p ys x later in (inr rest.0, rest.1)
-  ]
-  | inr e ↦ let rest = filter_in p ys x (subst (IsIn x) (filter_no p y ys e) h) in (inr rest.0, rest.1)
-]
-
-pub in_filter : {X : Type 0} (p : X → Bool) (xs : List X) (x : X) → IsIn x xs → p x ≡ true → IsIn x (filter p xs)
-in_filter p [] x h does = absurd h
-in_filter p (y ∷ ys) x (inl same) does = subst (IsIn x) (sym (filter_yes p y ys (ap p (sym same) ∙ does))) (inl same)
-in_filter p (y ∷ ys) x (inr later) does = elim (cases_Bool (p y)) [
-  | inl e ↦ subst (IsIn x) (sym (filter_yes p y ys e)) (inr (in_filter p ys x later does))
-  | inr e ↦ subst (IsIn x) (sym (filter_no p y ys e)) (in_filter p ys x later does)
-]
-
-pub filter_length : {X : Type 0} (p : X → Bool) (xs : List X) → length (filter p xs) ≤ length xs
-filter_length p [] = omega arith
-filter_length p (x ∷ xs) = let rest = filter_length p xs in elim (cases_Bool (p x)) [
-  | inl e ↦ omega (arith, count_yes p x xs e)
-  | inr e ↦ omega (arith, count_no p x xs e)
-]
 
 -- where q passes no more than p does
 pub fewer : {X : Type 0} (p q : X → Bool) (xs : List X) → ((x : X) → IsIn x xs → q x ≡ true → p x ≡ true) →
@@ -73,11 +43,6 @@ one_fewer p q (x ∷ xs) y h (inr later) does doesnt =
         | inr f ↦ omega (arith, count_no q x xs e, count_no p x xs f)
       ]
     ]
-
--- where no item passes
-pub filter_none : {X : Type 0} (p : X → Bool) (xs : List X) → ((x : X) → IsIn x xs → p x ≡ false) → filter p xs ≡ []
-filter_none p [] h = refl
-filter_none p (x ∷ xs) h = filter_no p x xs (h x (inl refl)) ∙ filter_none p xs (λ y k. h y (inr k))
 
 pub total-append : (ms ns : List ℕ) → total (ms ++ ns) ≡ total ms + total ns
 total-append [] ns = omega arith

@@ -97,14 +97,12 @@ sent_output (x ∷ older) p h = elim (in_either (sent older) (numbered (suc (len
       cond-true (p.entry == suc (length older)) _ _ (eq-eqb p.entry (suc (length older)) parts.0) ∙ numbered_nth (suc (length older)) x.outputs p new
 ]
 
--- entry and place name an output
-pub same_parcel : (older : List Entry) (a b : Parcel) → IsIn a (sent older) → IsIn b (sent older) → a.entry ≡ b.entry → a.place ≡ b.place → a ≡ b
-same_parcel older a b h k entries places =
-    let one = sent_output older a h in
-    let two = sent_output older b k in
-    let three : output_at older a.entry a.place ≡ output_at older b.entry b.place = cc in
-    let messages : a.message ≡ b.message = cc in
-    λ i. record { entry = entries i; place = places i; message = messages i }
+-- an output stays where it is
+pub found_before : (older : List Entry) (e : Entry) (entry place : ℕ) (m : Message) → output_at older entry place ≡ Some m
+    → output_at (e ∷ older) entry place ≡ Some m
+found_before older e entry place m at =
+    sent_output (e ∷ older) (parcel entry place m)
+    (in_left (sent older) (numbered (suc (length older)) 1 e.outputs) (parcel entry place m) (output_sent older entry place m at))
 
 numbered_once : (n k : ℕ) (ms : List Message) → Distinct (numbered n k ms)
 numbered_once n k [] = tt

@@ -24,7 +24,7 @@ use Rattle.tp_rules.specs.declared.event.Event.TheVariants.{Deliver, Dropped, In
 use Rattle.tp_rules.specs.declared.event.Parcel.{Parcel}
 use Rattle.tp_script.specs.declared.script.Script.{Script}
 use Rattle.tp_wire.specs.declared.message.Message.{Message}
-use Rattle.tp_rules.proofs.sent.CarriedCommands.{Carries, Takes, KeepsOnly, CommitsOnly, process_keeps_only, process_sends_only, executor_commits_only, executor_sends_only, session_sends_only}
+use Rattle.tp_rules.proofs.sent.CarriedCommands.{Carries, Takes, CommitsOnly, process_keeps_only, process_sends_only, executor_commits_only, executor_sends_only, session_sends_only}
 use Rattle.tp_rules.proofs.sent.Parcels.{parcel, output_sent}
 use Rattle.tp_rules.proofs.lists.Tallies.{filter_in}
 
@@ -101,13 +101,6 @@ sent_provenance script (e ∷ older) h =
     (event_passes script older e.actor (act_of older e.event) before (act_passes script older e.event before)) in
     each_append (λ (p : Parcel). Carries (IsOf script) p.message.body) (sent older) (numbered (suc (length older)) 1 e.outputs) before
     (each_numbered (Passes script) (suc (length older)) 1 e.outputs new)
-
--- each command that a process keeps, under its own identifier
-pub kept_provenance : (script : Script) (older : List Entry) → IsFreeHistory script older → (s : Site) →
-    KeepsOnly (IsOf script) (process.state_after (ring_rule script.topology) s (acts older (Process s)))
-kept_provenance script older h s =
-    process_keeps_only (IsOf script) (ring_rule script.topology) s (acts older (Process s))
-    (acts_pass script older (Process s) (sent_provenance script older h))
 
 -- each command that an executor has committed
 pub committed_provenance : (script : Script) (older : List Entry) → IsFreeHistory script older → (s : Site) →
