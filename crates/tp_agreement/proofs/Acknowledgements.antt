@@ -7,7 +7,7 @@ use Rattle.tp_base.specs.declared.names.Made.{Made}
 use Rattle.tp_base.specs.declared.names.Made.TheVariants.{Proposal, Recovery}
 use Rattle.tp_quorum.specs.Choice.{present, greatest}
 use Rattle.tp_rules.proofs.fit.Messages.{site_is}
-use Rattle.tp_rules.proofs.fit.Choices.{is_there, present_counted}
+use Rattle.tp_rules.proofs.fit.Choices.{is_there, present_counted, present_kept}
 use Rattle.tp_rules.proofs.sent.SendsOfProcess.{stamp}
 use Rattle.tp_rules.proofs.lists.UpTo.{get_there}
 use Rattle.tp_rules.specs.Sheet.{Proposed, is_made_by_proposal, is_proposal, made_of, stamp_proposed}
@@ -15,7 +15,7 @@ use Rattle.tp_topology.specs.Counting.{count_up_to}
 use Rattle.tp_topology.specs.Shape.{fast_size}
 use Rattle.tp_wire.specs.declared.message.Body.TheVariants.{MPropose, MProposeAck}
 use Rattle.tp_facts.proofs.Facts.{IsFull, HasFloor}
-use Rattle.tp_facts.proofs.Tables.{present_place, present_kept}
+use Rattle.tp_facts.proofs.Tables.{present_place}
 use Rattle.tp_agreement.proofs.Counting.{below_greatest, covers_all, value_of}
 use Rattle.tp_agreement.proofs.Moment.{IsRank, Moment, SentBy, acts_of, command, facts_of, home, id_of_command, is_true, named, process, received, received_from, quorum_size, replicas, in_quorum, quorum_rule, shape, sheet, sheet_of}
 

@@ -9,19 +9,18 @@ use Rattle.tp_base.specs.declared.names.Made.TheVariants.{Proposal}
 use Rattle.tp_choice.specs.Choosing.{IsChosen, accepted, of_all, of_members}
 use Rattle.tp_choice.specs.declared.answer.RecoveryAnswer.{RecoveryAnswer}
 use Rattle.tp_quorum.specs.Choice.{present, greatest}
-use Rattle.tp_rules.proofs.fit.Choices.{is_there}
+use Rattle.tp_rules.proofs.fit.Choices.{is_there, present_kept}
 use Rattle.tp_rules.specs.Sheet.{Proposed}
 use Rattle.tp_topology.proofs.Meetings.{both, shared, share}
 use Rattle.tp_topology.proofs.Passing.{count_more}
-use Rattle.tp_agreement.proofs.Sizes.{fast_is_majority, recovery_is_majority, recovery_meets_fast}
 use Rattle.tp_topology.specs.Counting.{count_up_to}
 use Rattle.tp_topology.specs.Shape.{majority_size}
-use Rattle.tp_facts.proofs.Tables.{present_kept}
 use Rattle.tp_facts.specs.Settled.{is_proposed}
 use Rattle.tp_agreement.proofs.Acknowledgements.{IsWhole, Proposes, acknowledged_at_most, home_proposed_at_most, whole_count}
 use Rattle.tp_agreement.proofs.Counting.{count_with_rank, value_of, with_rank, with_rank_cases}
 use Rattle.tp_agreement.proofs.Moment.{IsRank, Moment, SentBy, home, put, quorum_size, replicas, in_quorum, shape, sheet}
 use Rattle.tp_agreement.proofs.RecoveryAnswers.{NoneAccepted, RecoveryAt, answered_count, of_acknowledgements, of_member, of_proposals, origin, told_proposal}
+use Rattle.tp_topology.proofs.Sizes.{fast_is_majority, recovery_is_majority, recovery_meets_fast}
 
 module _ (m : Moment) where
   -- rank j has a proposal at or below stamp u

@@ -1,6 +1,6 @@
 -- What a commit says: the script's command, and the greatest of the stamps known. Used for the final stamps.
 use Rattle.std.proofs.Common.{◌≡◌, ℕ, inl, inr, true, List, [], ◌∷◌, map, Option, Some, None, refl, sym, ap, ◌∙◌, subst}
-use Rattle.std.specs.List.{cons_option, filter_map}
+use Rattle.std.specs.List.{filter_map}
 use Rattle.std.specs.Prelude.{slice_get, ◌-◌}
 use Rattle.tp_base.proofs.Each.{each_in}
 use Rattle.tp_base.proofs.Members.{in_either}
@@ -32,19 +32,8 @@ use Rattle.tp_facts.proofs.Commands.{command_in, command_in_names}
 use Rattle.tp_facts.proofs.Senders.{IsOfProcess, sender_of, output_sender}
 use Rattle.tp_agreement.proofs.KnownStamps.{sheet_at_site}
 use Rattle.tp_agreement.proofs.Moment.{Moment, SentBy, is_true, moment_at}
+use Rattle.tp_base.proofs.Tests.{kept_in}
 use Rattle.tp_topology.specs.Shape.{is_site_of}
-
--- what is left by a filter comes from an item
-from_filter_map : {X Y : Type 0} (f : X → Option Y) (xs : List X) (y : Y) → IsIn y (filter_map f xs)
-    → (x : X) × IsIn x xs × (f x ≡ Some y)
-from_filter_map f [] y h = absurd h
-from_filter_map f (x ∷ xs) y h = go (f x) refl h (from_filter_map f xs y)
-  where
-    go : (o : Option _) → f x ≡ o → IsIn y (cons_option o (filter_map f xs))
-        → (IsIn y (filter_map f xs) → (z : _) × IsIn z xs × (f z ≡ Some y)) → (z : _) × IsIn z (x ∷ xs) × (f z ≡ Some y)
-    go None is h rest = let r = rest h in (r.0, inr r.1, r.2)
-    go (Some w) is (inl e) rest = (x, inl refl, is ∙ ap (λ (v : _). Some v) (sym e))
-    go (Some w) is (inr later) rest = let r = rest later in (r.0, inr r.1, r.2)
 
 -- a commit is a message of the process that committed
 commit_sent : (script : Script) (older : List Entry) → IsFreeHistory script older → (x : Commit)
@@ -54,7 +43,7 @@ commit_sent script (e ∷ older) history x there =
     elim (in_either (commits older) (filter_map (λ (n : Message). commit_by e.actor n.body) e.outputs) x there) [
       | inl before ↦ let c = commit_sent script older history.0 x before in (c.0, inr c.1, c.2)
       | inr now ↦
-          let n = from_filter_map (λ (n : Message). commit_by e.actor n.body) e.outputs x now in
+          let n = kept_in (λ (n : Message). commit_by e.actor n.body) e.outputs x now in
           let by = output_sender script older e n.0 history.1 n.1 in
           (n.0, inl n.1, ap (λ (a : ActorName). commit_by a n.0.body) by.0 ∙ n.2)
     ]

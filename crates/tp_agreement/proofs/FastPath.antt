@@ -7,16 +7,16 @@ use Rattle.tp_choice.specs.Choosing.{IsChosen, accepted, of_all, of_members}
 use Rattle.tp_choice.specs.declared.answer.RecoveryAnswer.{RecoveryAnswer}
 use Rattle.tp_quorum.specs.Choice.{present, greatest, count_of}
 use Rattle.tp_rules.proofs.fit.Messages.{site_is, site_known}
-use Rattle.tp_rules.proofs.fit.Choices.{is_there}
+use Rattle.tp_rules.proofs.fit.Choices.{is_there, present_kept}
 use Rattle.tp_topology.proofs.Meetings.{shared}
-use Rattle.tp_agreement.proofs.Sizes.{recovery_meets_fast}
 use Rattle.tp_topology.specs.Counting.{count_up_to}
 use Rattle.tp_facts.proofs.Facts.{IsFast}
-use Rattle.tp_facts.proofs.Tables.{present_place, present_kept}
+use Rattle.tp_facts.proofs.Tables.{present_place}
 use Rattle.tp_agreement.proofs.Acknowledgements.{Proposes, acknowledged, acknowledged_at_most, home_proposed_at_most, member_acknowledged, one_proposal, table_size, whole_is_of_home}
 use Rattle.tp_agreement.proofs.Counting.{answers_from_top, has_value, has_value_is, value_count, value_of}
 use Rattle.tp_agreement.proofs.Moment.{IsRank, Moment, SentBy, home, process, put, quorum_size, replicas, in_quorum, quorum_rule, shape, sheet}
 use Rattle.tp_agreement.proofs.RecoveryAnswers.{NoneAccepted, RecoveryAt, answered_count, member_of, of_acknowledgements, of_member, of_proposals, origin, proposal_in, told_proposal}
+use Rattle.tp_topology.proofs.Sizes.{recovery_meets_fast}
 
 module _ (m : Moment) where
   -- a rank has a whole fast quorum's acknowledgements, of which at least as many as may fail are the greatest, t

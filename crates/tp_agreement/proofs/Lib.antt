@@ -1,4 +1,3 @@
-pub mod Sizes
 pub mod Counting
 pub mod Moment
 pub mod Acknowledgements

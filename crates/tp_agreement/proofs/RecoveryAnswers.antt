@@ -7,13 +7,13 @@ use Rattle.tp_choice.proofs.Cases.{choice_cases}
 use Rattle.tp_choice.specs.Choosing.{IsChosen, accepted, of_all, of_members}
 use Rattle.tp_choice.specs.declared.answer.RecoveryAnswer.{RecoveryAnswer}
 use Rattle.tp_quorum.specs.Choice.{present, greatest}
-use Rattle.tp_rules.proofs.fit.Choices.{is_there, present_counted}
+use Rattle.tp_rules.proofs.fit.Choices.{is_there, present_counted, present_kept}
 use Rattle.tp_rules.specs.Sheet.{Proposed}
 use Rattle.tp_topology.specs.Counting.{count_up_to}
 use Rattle.tp_topology.specs.Shape.{recovery_size}
 use Rattle.tp_wire.specs.declared.message.Body.TheVariants.{MRecAck}
 use Rattle.tp_facts.proofs.Facts.{IsFast, IsRecovered}
-use Rattle.tp_facts.proofs.Tables.{present_place, present_kept}
+use Rattle.tp_facts.proofs.Tables.{present_place}
 use Rattle.tp_facts.proofs.Consequences.{answer_of}
 use Rattle.tp_agreement.proofs.Acknowledgements.{IsWhole}
 use Rattle.tp_agreement.proofs.Moment.{IsRank, Moment, SentBy, acts_of, by_acts, command, facts_of, home, is_put, process, put, received, received_from, replicas, in_quorum, quorum_rule, shape, sheet}

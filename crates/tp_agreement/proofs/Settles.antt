@@ -21,7 +21,6 @@ use Rattle.tp_topology.proofs.Passing.{count_more}
 use Rattle.tp_topology.specs.Counting.{count_up_to, up_to}
 use Rattle.tp_topology.specs.Shape.{majority_size}
 use Rattle.tp_facts.proofs.Commands.{accessed_from, command_in, command_is}
-use Rattle.tp_facts.proofs.Tables.{all_in}
 use Rattle.tp_facts.specs.Settled.{Settled, is_proposed, sheet_at}
 use Rattle.tp_agreement.proofs.Attached.{is_attached}
 use Rattle.tp_agreement.proofs.Commits.{IsFinal, commit_is_final, home_in_range, known_stamps}
@@ -29,6 +28,7 @@ use Rattle.tp_agreement.proofs.Counting.{below_greatest, value_of}
 use Rattle.tp_agreement.proofs.Decisions.{Decided, majority_attached, one_decision}
 use Rattle.tp_agreement.proofs.KnownStamps.{known_decided}
 use Rattle.tp_agreement.proofs.Moment.{id_of_command, moment_at}
+use Rattle.tp_base.proofs.Tests.{all_in}
 
 -- the greatest of stamps that are all known
 

@@ -9,15 +9,16 @@ use Rattle.tp_paxos.specs.Votes.{count_votes}
 use Rattle.tp_quorum.specs.Choice.{present}
 use Rattle.tp_rules.proofs.fit.Messages.{site_is}
 use Rattle.tp_rules.proofs.sent.SendsOfProcess.{stamp}
-use Rattle.tp_agreement.proofs.Sizes.{recovery_meets_slow}
 use Rattle.tp_topology.specs.Shape.{slow_size}
 use Rattle.tp_wire.specs.declared.message.Body.TheVariants.{MConsensusAck}
 use Rattle.tp_facts.proofs.RunFacts.{one_put_per_ballot}
 use Rattle.tp_facts.proofs.Commands.{command_in_names}
-use Rattle.tp_facts.proofs.Tables.{meets, present_kept}
+use Rattle.tp_facts.proofs.Tables.{meets}
 use Rattle.tp_facts.proofs.Consequences.{no_vote_between}
 use Rattle.tp_agreement.proofs.Moment.{Moment, SentBy, by_acts, command, facts_of, is_put, named, process, put, replicas, shape}
 use Rattle.tp_agreement.proofs.RecoveryAnswers.{Answered, RecoveryAt, at_first, by_recovery, put_before, put_case}
+use Rattle.tp_rules.proofs.fit.Choices.{present_kept}
+use Rattle.tp_topology.proofs.Sizes.{recovery_meets_slow}
 
 module _ (m : Moment) where
   -- a slow quorum accepted stamp t at ballot b

@@ -3,7 +3,7 @@
 use Rattle.std.proofs.Common.{◌≡◌, ℕ, Bool, true, List, [], ◌++◌, length, Option, Some, None, refl, sym, ap, ◌∙◌, subst, arith}
 use Rattle.std.proofs.lemmas.Bool.{and_parts, both_ways, cond_both, eqb-true, leb-true, ltb-true}
 use Rattle.std.specs.Prelude.{is_none, is_some, nat_le, nat_lt, ◌==◌, ◌&&◌}
-use Rattle.tp_base.proofs.Options.{none_of}
+use Rattle.tp_base.proofs.Options.{absent, none_of}
 use Rattle.tp_base.specs.Limits.{STAMP_LIMIT}
 use Rattle.tp_base.specs.Names.{same_name}
 use Rattle.tp_base.specs.declared.names.ActorName.TheVariants.{Process}
@@ -20,7 +20,7 @@ use Rattle.tp_quorum.specs.declared.choice.FastChoice.TheVariants.{Fast, Slow}
 use Rattle.tp_rules.proofs.sent.SendsOfProcess.{stamp}
 use Rattle.tp_rules.specs.Acts.{Act, Took, Did}
 use Rattle.tp_rules.specs.Addresses.{is_body_at, is_name_of, rank_of}
-use Rattle.tp_rules.specs.Process.{Step, ProcessState, accept_and_vote, answer_with_old_proposal, announced, follow_choice, commit_messages, decided, finished, conclude_fast_path, has_next, answer_recovery, learned, next_stamp, on_body, on_commit, on_consensus, on_consensus_ack, on_propose, on_propose_ack, on_rec_ack, on_rec_by_stamp, on_recover, on_submit, propose_and_acknowledge, proposing, propose_and_answer, put_recovered, react, recovered, recovering, submitted, voted, with_room, with_sheet}
+use Rattle.tp_rules.specs.Process.{Step, ProcessState, accept_and_vote, answer_with_old_proposal, announced, follow_choice, commit_messages, finished, conclude_fast_path, has_next, answer_recovery, learned, next_stamp, on_body, on_commit, on_consensus, on_consensus_ack, on_propose, on_propose_ack, on_rec_ack, on_rec_by_stamp, on_recover, on_submit, propose_and_acknowledge, proposing, propose_and_answer, put_recovered, react, recovered, recovering, submitted, voted, with_room, with_sheet}
 use Rattle.tp_rules.specs.Sheet.{QuorumRule, Sheet, acknowledged, can_accept, can_acknowledge, can_answer, can_vote, final_stamp, stamp_decided, is_fresh, is_full, is_recovered, is_untouched, with_command, stamp_of, with_answer, with_proposal, with_stamp, with_vote}
 use Rattle.tp_rules.specs.declared.event.Inner.TheVariants.{Announce, Recover}
 use Rattle.tp_topology.specs.Ballots.{next_ballot}
@@ -29,7 +29,7 @@ use Rattle.tp_wire.specs.declared.message.Body.{Body}
 use Rattle.tp_wire.specs.declared.message.Body.TheVariants.{MSubmit, MPropose, MPayload, MProposeAck, MBump, MConsensus, MConsensusAck, MCommit, MRec, MRecAck}
 use Rattle.tp_wire.specs.declared.message.Message.{Message}
 use Rattle.tp_facts.proofs.StepCases.{IsFinal, untold, final, recovery_answer, greatest_acknowledged, with_acknowledgement, SheetStep, submits, submits_and_acknowledges, proposes, keeps_payload, counts_acknowledgement, decides_fast, puts_slow, accepts, counts_vote, decides_by_votes, knows_already, learns, proposes_and_answers_recovery, answers_recovery, counts_answer, puts_recovered, starts_recovery, ProcessStep, does_nothing, bumps_clock, announces, passes_commit_on, changes_sheet, attaches_proposal}
-use Rattle.tp_facts.proofs.RuleTests.{CanAcknowledge, CanAnswer, can_acknowledge_is, can_answer_is, fresh_is, is_none-some, proposed_before}
+use Rattle.tp_facts.proofs.RuleTests.{CanAcknowledge, CanAnswer, can_acknowledge_is, can_answer_is, fresh_is, proposed_before}
 
 module _ (s : QuorumRule) (me : Site) (act : Act) (state : ProcessState) where
   abbrev IsStep : Step → Type 0
@@ -63,7 +63,7 @@ module _ (s : QuorumRule) (me : Site) (act : Act) (state : ProcessState) where
       (λ (moved : Step). IsStep (moved.0, before ++ moved.1))
       (λ y. changes_sheet state.clock (omega arith) (again y) same)
       (λ n. finished_step id known known.command (final_stamp s.shape known known.command) before refl refl same
-      (step (is_none-some (stamp_of sheet q) n)))
+      (step (absent (stamp_of sheet q) n)))
 
 -- what each kind of message does
 module _ (s : QuorumRule) (me : Site) (m : Message) (state : ProcessState) where

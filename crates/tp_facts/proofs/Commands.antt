@@ -9,6 +9,7 @@ use Rattle.std.specs.Prelude.{◌==◌}
 use Rattle.tp_base.proofs.Ends.{got_within}
 use Rattle.tp_base.proofs.Members.{get_in}
 use Rattle.tp_base.proofs.SameNames.{same_id_is, same_id_refl}
+use Rattle.tp_base.proofs.Tests.{some_in}
 use Rattle.tp_base.specs.Lists.{IsIn}
 use Rattle.tp_base.specs.Lists.{IsIn}
 use Rattle.tp_base.specs.Names.{same_id}
@@ -24,10 +25,10 @@ use Rattle.tp_script.specs.Accepted.{IsAccepted, commands_by}
 use Rattle.tp_script.specs.declared.script.Script.{Script}
 use Rattle.tp_topology.specs.Counting.{up_to}
 use Rattle.tp_facts.proofs.RunFacts.{NamesCommands}
-use Rattle.tp_facts.proofs.Tables.{any_in, find_there}
+use Rattle.tp_facts.proofs.Tables.{find_there}
 
 -- a command that has the place of its number
-number_is : (cs : List Command) (i : ℕ) (c : Command) → map (λ c. c.id.number) cs ≡ up_to (length cs)
+pub number_is : (cs : List Command) (i : ℕ) (c : Command) → map (λ c. c.id.number) cs ≡ up_to (length cs)
     → slice_get cs i ≡ Some c → c.id.number ≡ suc i
 number_is cs i c numbered at =
     let here : slice_get (map (λ (c : Command). c.id.number) cs) i ≡ Some c.id.number =
@@ -86,7 +87,7 @@ command_is script accepted c h =
 pub accessed_from : (n : ℕ) (c : Command) (p : ℕ) → 1 ≤ n → is_accessed n c p ≡ true → (1 ≤ p) × (p ≤ n)
 unfolding is_accessed
 accessed_from n c p some h =
-    let found = any_in (is_on n p) c.ops h in
+    let found = some_in (is_on n p) c.ops h in
     let is : partition_number (key_of found.0) n ≡ p = eqb-true (partition_number (key_of found.0) n) p found.2 in
     (omega arith, omega arith)
 

@@ -1,8 +1,8 @@
 -- The tests of the rules, as facts: which acknowledgements and answers count, and what is fresh or touched.
 -- Used for the cases of a step.
-use Rattle.std.proofs.Common.{◌≡◌, ◌≢◌, ℕ, ◌<◌, ◌≤◌, Bool, true, false, length, Option, Some, None, refl, ap, arith}
+use Rattle.std.proofs.Common.{◌≡◌, ◌≢◌, ℕ, ◌<◌, Bool, true, false, length, Option, Some, None, ap, arith}
 use Rattle.std.proofs.lemmas.Bool.{and_parts, eqb-true, eqb-false, ltb-true, not-true}
-use Rattle.std.specs.Prelude.{is_none, is_some, nat_lt, not, ◌==◌, ◌&&◌}
+use Rattle.std.specs.Prelude.{is_none, nat_lt, not, ◌==◌, ◌&&◌}
 use Rattle.tp_base.proofs.Options.{none_of}
 use Rattle.tp_base.specs.Tables.{kept_at}
 use Rattle.tp_paxos.specs.Votes.{PutStamp, is_put_at}
@@ -74,10 +74,6 @@ can_answer_is p b rank sheet t =
       tried = eqb-true sheet.tried b z.1;
       putting = put_elsewhere b sheet.put (not-true (is_put_at b sheet.put) y.1) (ltb-true 0 b u.1);
     }
-
-pub is_none-some : {X : Type 0} (o : Option X) → is_some o ≡ false → o ≡ None
-is_none-some None e = refl
-is_none-some (Some x) e = absurd cc
 
 -- a process that is not untouched has proposed, where it has joined no ballot
 pub proposed_before : (none : Bool) (ballot : ℕ) → (none && (ballot == 0)) ≡ false → ballot ≡ 0 → none ≡ false

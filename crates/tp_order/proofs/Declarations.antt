@@ -8,6 +8,7 @@ use Rattle.tp_base.specs.Lists.{Each, IsIn, has}
 use Rattle.tp_base.specs.Names.{same_id}
 use Rattle.tp_base.proofs.Each.{each_in}
 use Rattle.tp_base.proofs.SameNames.{same_id_is, same_id_refl}
+use Rattle.tp_base.proofs.Tests.{all_in, some_in}
 use Rattle.tp_base.specs.declared.names.ActorName.{ActorName}
 use Rattle.tp_base.specs.declared.names.ActorName.TheVariants.{Process, Executor, Session}
 use Rattle.tp_base.specs.declared.names.CommandId.{CommandId}
@@ -32,7 +33,6 @@ use Rattle.tp_rules.proofs.lists.Tallies.{in_filter}
 use Rattle.tp_rules.proofs.ends.Unexecuted.{executor_of, executor_remembers}
 use Rattle.tp_rules.proofs.lists.UpTo.{in_up_to}
 use Rattle.tp_facts.proofs.Commands.{accessed_from}
-use Rattle.tp_facts.proofs.Tables.{any_in, all_in}
 use Rattle.tp_facts.proofs.Senders.{may_send, output_sender}
 use Rattle.tp_facts.proofs.Deliveries.{acts_were_sent}
 use Rattle.tp_order.proofs.Knowledge.{StableMessage, knows_by_messages}
@@ -125,7 +125,7 @@ heard_is_declared script older s id q history heard =
     let knows =
     knows_by_messages (IsSent older) script.topology s (acts older (Executor s))
     (acts_were_sent (IsSent older) older (Executor s) (λ m sent. sent)) in
-    let found = any_in (λ (x : executor.Heard). same_id x.id id && (x.partition == q)) state.heard heard in
+    let found = some_in (λ (x : executor.Heard). same_id x.id id && (x.partition == q)) state.heard heard in
     let parts = and_parts (same_id found.0.id id) (found.0.partition == q) found.2 in
     let told = each_in (StableMessage (IsSent older) script.topology s) state.heard found.0 knows.heard found.1 in
     let declared = sender_has_declared script older told.message found.0.id history told.taken told.body in

@@ -8,7 +8,6 @@ pub mod Executions
 pub mod InOrder
 pub mod Knowledge
 pub mod Laws
-pub mod LeastKey
 pub mod LineGoesOn
 pub mod SentCommits
 pub mod Shares

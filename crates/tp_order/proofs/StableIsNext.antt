@@ -23,8 +23,8 @@ use Rattle.tp_facts.specs.Settled.{Settled}
 use Rattle.tp_order.proofs.CommittedAndDue.{IsDueByFinalKey, committed_is_due, due_is_committed}
 use Rattle.tp_order.proofs.EntryKinds.{Declaration, Execution}
 use Rattle.tp_order.proofs.Executions.{least_is_waiting, noted_is_executed, unnoted_is_not_executed}
-use Rattle.tp_order.proofs.LeastKey.{least_at_most}
 use Rattle.tp_order.specs.Due.{IsDue, IsNext, IsWithin, final_key}
+use Rattle.tp_rules.proofs.LeastKey.{least_at_most}
 use Rattle.tp_rules.specs.Executor as executor
 
 smaller_by : (a b a' b' : Key) → a ≡ a' → b ≡ b' → key_lt a' b' ≡ true → key_lt a b ≡ true

@@ -13,7 +13,7 @@ use Rattle.tp_base.specs.declared.names.CommandId.{CommandId}
 use Rattle.tp_base.specs.declared.names.Key.{Key}
 use Rattle.tp_base.specs.declared.names.Site.{Site}
 use Rattle.tp_ops.specs.declared.command.Command.{Command}
-use Rattle.tp_order.proofs.LeastKey.{least_at_most}
+use Rattle.tp_rules.proofs.LeastKey.{least_at_most}
 use Rattle.tp_rules.proofs.lists.Tallies.{filter_in, in_filter}
 use Rattle.tp_rules.proofs.ends.Unexecuted.{least_in}
 use Rattle.tp_rules.specs.Addresses.{accessed, others_accessed, site}

@@ -3,17 +3,18 @@
 -- Used for each command in a run in which nothing is pending.
 use Rattle.std.proofs.Common.{◌≡◌, ◌≢◌, ℕ, inl, inr, true, List, [], ◌∷◌, Option, Some, None, is_some, refl, sym, subst}
 use Rattle.std.specs.Prelude.{replicate}
-use Rattle.std.proofs.lemmas.Bool.{both_ways, cases_Bool, cond_both}
+use Rattle.std.proofs.lemmas.Bool.{both_ways, cases_Bool}
 use Rattle.tp_base.proofs.Each.{each_in}
 use Rattle.tp_base.proofs.Members.{in_left}
-use Rattle.tp_base.proofs.SameNames.{same_id_is, same_name_is, same_name_refl}
+use Rattle.tp_base.proofs.SameNames.{same_name_is, same_name_refl}
 use Rattle.tp_base.specs.Limits.{IsFrom}
 use Rattle.tp_base.specs.Lists.{IsIn}
-use Rattle.tp_base.specs.Names.{same_id, same_name}
+use Rattle.tp_base.specs.Names.{same_name}
 use Rattle.tp_base.specs.declared.names.ActorName.TheVariants.{Process}
 use Rattle.tp_base.specs.declared.names.CommandId.{CommandId}
 use Rattle.tp_base.specs.declared.names.Site.{Site}
 use Rattle.tp_agreement.proofs.KnownStamps.{acts_are_sent}
+use Rattle.tp_agreement.proofs.Moment.{id_of_command}
 use Rattle.tp_facts.proofs.ActSteps.{step_of_act}
 use Rattle.tp_facts.proofs.Commands.{command_in, command_in_names}
 use Rattle.tp_facts.proofs.Deliveries.{sent_before}
@@ -52,12 +53,6 @@ use Rattle.tp_quiet.proofs.Stuck.{IsTakenIn}
 use Rattle.tp_quiet.proofs.TakenWell.{are_genuine, is_here}
 use Rattle.tp_quiet.proofs.TellsAll.{act_tells}
 use Rattle.tp_topology.specs.Shape.{is_site_of}
-
--- the command of an identifier has it
-pub named_id : (cs : List Command) (id : CommandId) → (command_in cs id).id ≡ id
-named_id [] id = refl
-named_id (c ∷ cs) id = cond_both (same_id c.id id) c (command_in cs id) (λ (d : Command). d.id ≡ id)
-    (λ y. same_id_is c.id id y) (λ n. named_id cs id)
 
 module _ (script : Script) (accepted : IsAccepted script) where
   abbrev of : CommandId → Command
@@ -155,7 +150,7 @@ module _ (script : Script) (accepted : IsAccepted script) where
           (all_before j by.known id
           (subst (λ (p : ℕ). Knows p ((process_at script accepted older j).sheets id)) partition
           (subst (λ (i : CommandId). Knows k.partition.0 ((process_at script accepted older j).sheets i))
-          (named_id script.commands id) knows)))
+          (id_of_command script.commands id) knows)))
 
       by_act : (act : Act) → e.actor ≡ Process k → act_of older e.event ≡ Some act
           → Knows k.partition.0 ((state_after rule k (act ∷ acts older (Process k))).sheets id)
@@ -223,7 +218,7 @@ module _ (script : Script) (older : List Entry) (run : IsTakenIn script older) w
             subst (λ (p : ℕ). is_accessed script.topology.partitions c p ≡ true) (sym h.partition) on_k in
             let knows : Knows h.by.partition.0 ((process_at script run.accepted older j).sheets c.id) = serves on in
             subst (λ (i : CommandId). Knows k.partition.0 ((process_at script run.accepted older j).sheets i))
-            (named_id script.commands id)
+            (id_of_command script.commands id)
             (subst (λ (p : ℕ). Knows p ((process_at script run.accepted older j).sheets c.id)) h.partition knows)
       ]
     where

@@ -5,7 +5,7 @@ use Rattle.std.proofs.Common.{◌≡◌, ℕ, zero, suc, ◌+◌, ◌≤◌, Boo
 use Rattle.std.specs.Option.{option_or}
 use Rattle.std.specs.Prelude.{◌==◌, ◌&&◌, nat_lt, not, option_map, unwrap_or}
 use Rattle.std.specs.List.{list_all, list_any}
-use Rattle.std.proofs.lemmas.Bool.{and_from, cases_Bool, cases_eq, cond_both, cond-false, cond-true, eq-eqb, lt-ltb, ltb-false, or_left, or_right}
+use Rattle.std.proofs.lemmas.Bool.{and_from, cases_Bool, cases_eq, cond-false, cond-true, eq-eqb, lt-ltb, ltb-false, or_left, or_right}
 use Rattle.tp_base.proofs.SameNames.{same_id_refl, same_name_refl}
 use Rattle.tp_base.specs.Limits.{IsFrom}
 use Rattle.tp_base.specs.Lists.{IsIn}
@@ -26,9 +26,9 @@ use Rattle.tp_replies.proofs.Submissions.{IsSubmitted}
 use Rattle.tp_replies.specs.SessionReply.{session_of}
 use Rattle.tp_rules.proofs.ActsMore.{acts_step}
 use Rattle.tp_rules.proofs.OwnSteps.{session_may}
-use Rattle.tp_rules.proofs.ends.Unsubmitted.{submitted_by}
+use Rattle.tp_rules.proofs.ends.Unsubmitted.{message_keeps_submitted, submitted_by}
 use Rattle.tp_rules.specs.Acts.{Act, Client, Took, Did}
-use Rattle.tp_rules.specs.Addresses.{accessed, is_body_at, is_name_of}
+use Rattle.tp_rules.specs.Addresses.{accessed}
 use Rattle.tp_rules.specs.Journal.{act_of, acts, client_of, commands_of, identity_in, output_at, with_act}
 use Rattle.tp_rules.specs.Outcome.{first_result, is_submission_of, is_submit, reply_from, reply_to, result_at, result_by, result_in}
 use Rattle.tp_rules.specs.Rules.{MayMake}
@@ -197,19 +197,6 @@ module _ (script : Script) (s : SessionId) where
   abbrev pub IsSubmittedAt : List Entry → ℕ → Type 0
   IsSubmittedAt older n = (n ≤ length (commands_of script s)) × IsSubmitted older (at_number n)
 
-  result_keeps : (body : Body) (state : session.SessionState)
-      → (session.on_body script.topology (client_of script s) body state).0.submitted ≡ state.submitted
-  result_keeps (MResult id q answers) state =
-      cond_both _ _ _ (λ (moved : session.Step). moved.0.submitted ≡ state.submitted) (λ y. refl) (λ n. refl)
-  result_keeps _ state = refl
-
-  message_keeps : (m : Message) (state : session.SessionState)
-      → (session.react script.topology (client_of script s) (Took m) state).0.submitted ≡ state.submitted
-  message_keeps m state =
-      cond_both (same_name m.to (Session s) && is_name_of script.topology m.from && is_body_at script.topology 0 m.body)
-      (session.on_body script.topology (client_of script s) m.body state) (state, [])
-      (λ (moved : session.Step). moved.0.submitted ≡ state.submitted) (λ y. result_keeps m.body state) (λ n. refl)
-
   submitted_later : (older : List Entry) (e : Entry) (n : ℕ) → IsSubmittedAt older n → IsSubmittedAt (e ∷ older) n
   submitted_later older e n h =
       (h.0, or_right (is_submission_of (at_number n) e) (list_any (is_submission_of (at_number n)) older) h.1)
@@ -262,6 +249,6 @@ module _ (script : Script) (s : SessionId) where
       by_act : (act : Act) → e.actor ≡ Session s → act_of older e.event ≡ Some act
           → n ≤ (session.react script.topology (client_of script s) act state).0.submitted
           → (n ≤ submitted_by script older s → IsSubmittedAt (e ∷ older) n) → IsSubmittedAt (e ∷ older) n
-      by_act (Took m) same is le before = before (omega (arith, le, message_keeps m state))
+      by_act (Took m) same is le before = before (omega (arith, le, message_keeps_submitted script.topology (client_of script s) m state))
       by_act (Did (Submit m)) same is le before = submits m same (event_of (Submit m) e.event is) le before
       by_act (Did _) same is le before = before le

@@ -29,7 +29,7 @@ use Rattle.tp_rules.specs.declared.event.Parcel.{Parcel}
 use Rattle.tp_rules.proofs.ActsMore.{acts_then}
 use Rattle.tp_rules.proofs.Histories.{free_history}
 use Rattle.tp_rules.proofs.fit.InRange.{sent_known}
-use Rattle.tp_rules.proofs.sent.Parcels.{output_sent, sent_output}
+use Rattle.tp_rules.proofs.sent.Parcels.{found_before, sent_output}
 use Rattle.tp_rules.proofs.ends.Unannounced.{site_listed}
 use Rattle.tp_script.specs.Accepted.{IsAccepted, IsPlanLineOf}
 use Rattle.tp_script.specs.declared.script.PlanLine.{PlanLine}
@@ -207,11 +207,6 @@ module _ (script : Script) (accepted : IsAccepted script) (harmless : IsHarmless
   delivery_is entry place (Dropped e p) h = absurd cc
   delivery_is entry place (OfItself inner) h = absurd cc
 
-  stays_at : (e : Entry) (older : List Entry) (entry place : ℕ) (m : Message)
-      → output_at older entry place ≡ Some m → output_at (e ∷ older) entry place ≡ Some m
-  stays_at e older entry place m is = sent_output (e ∷ older) (record { entry = entry; place = place; message = m })
-      (in_left (sent older) _ _ (output_sent older entry place m is))
-
   acts_stay : (e : Entry) (older : List Entry) (a : ActorName) (act : Act) → IsIn act (acts older a)
       → IsIn act (acts (e ∷ older) a)
   acts_stay e older a act h =
@@ -233,7 +228,7 @@ module _ (script : Script) (accepted : IsAccepted script) (harmless : IsHarmless
       here None is for event = absurd for
       here (Some m) is for event = record {
         m = m;
-        at = stays_at e older entry place m is;
+        at = found_before older e entry place m is;
         took =
             subst (IsIn (Took m)) (sym (acts_then older e m.to (Took m) (sym for) (ap (act_of older) event ∙ ap
             (option_map Took) is))) (inl refl);
@@ -250,7 +245,7 @@ module _ (script : Script) (accepted : IsAccepted script) (harmless : IsHarmless
           let old = rest some in
           record {
             m = old.m;
-            at = stays_at e older entry place old.m old.at;
+            at = found_before older e entry place old.m old.at;
             took = acts_stay e older old.m.to
                 (Took old.m) old.took;
           }

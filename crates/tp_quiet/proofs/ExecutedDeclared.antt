@@ -2,7 +2,6 @@
 -- Used for the executors in a run in which nothing is pending.
 use Rattle.std.proofs.Common.{◌≡◌, ℕ, inl, inr, true, false, List, [], ◌∷◌, refl, sym, ap, subst, ◌∙◌}
 use Rattle.std.specs.Prelude.{not}
-use Rattle.std.specs.List.{list_all}
 use Rattle.std.proofs.lemmas.Bool.{and_parts, both_ways, cases_Bool}
 use Rattle.tp_base.proofs.Members.{has_in, in_has}
 use Rattle.tp_base.proofs.SameNames.{same_id_is, same_id_refl}
@@ -17,19 +16,13 @@ use Rattle.tp_rules.proofs.ActsMore.{acts_step}
 use Rattle.tp_rules.proofs.ends.Unexecuted.{executor_of, executor_remembers}
 use Rattle.tp_rules.specs.Acts.{Act}
 use Rattle.tp_rules.specs.Addresses.{others_accessed}
-use Rattle.tp_rules.specs.Executor.{Committed, ExecutorState, committed_ids, is_heard, is_ready, is_undeclared, state_after}
+use Rattle.tp_rules.specs.Executor.{Committed, ExecutorState, committed_ids, is_ready, is_undeclared, state_after}
 use Rattle.tp_rules.specs.Runs.{IsFreeHistory}
 use Rattle.tp_rules.specs.declared.event.Entry.{Entry}
 use Rattle.tp_script.specs.declared.script.Script.{Script}
 use Rattle.tp_topology.specs.Stability.{is_stable}
 use Rattle.tp_quiet.proofs.ExecutorsHear.{KnowsMore, act_grows, knows_itself}
-
--- what is ready is declared
-ready_declared : (state : ExecutorState) (id : CommandId) (others : List ℕ) → is_ready state id others ≡ true
-    → is_undeclared state id others ≡ false
-ready_declared state id [] h = refl
-ready_declared state id (q ∷ qs) h =
-    ap not (and_parts (has same_id id state.declared) (list_all (is_heard state id) (q ∷ qs)) h).0
+use Rattle.tp_rules.proofs.OwnSteps.{ready_declared}
 
 -- and stays so
 declared_later : (old new : ExecutorState) (id : CommandId) (others : List ℕ)

@@ -3,8 +3,7 @@
 -- Used for what is executed in a run in which nothing is pending.
 use Rattle.std.proofs.Common.{◌≡◌, ◌≢◌, ℕ, ◌≤◌, Bool, inl, inr, true, false, cond, List, [], ◌∷◌, Option, Some, None, is_some, refl, sym, ap, subst, ◌∙◌, arith}
 use Rattle.std.specs.Prelude.{◌==◌, ◌&&◌, is_none, nat_lt, not}
-use Rattle.std.specs.List.{list_any}
-use Rattle.std.proofs.lemmas.Bool.{and_from, cond_both, eq-eqb, eqb-true, ltb-false, or_left, or_right}
+use Rattle.std.proofs.lemmas.Bool.{and_from, cond_both, eq-eqb, eqb-true, ltb-false}
 use Rattle.tp_base.proofs.Each.{each_in, each_weaker}
 use Rattle.tp_base.proofs.SameNames.{same_id_refl, same_name_refl}
 use Rattle.tp_base.specs.Limits.{IsFrom}
@@ -17,6 +16,7 @@ use Rattle.tp_base.specs.declared.names.Key.{Key}
 use Rattle.tp_base.specs.declared.names.Pair.{Pair}
 use Rattle.tp_base.specs.declared.names.Site.{Site}
 use Rattle.tp_agreement.proofs.KnownStamps.{acts_are_sent}
+use Rattle.tp_base.proofs.Tests.{any_in}
 use Rattle.tp_facts.proofs.Commands.{accessed_from, command_in, command_in_names}
 use Rattle.tp_facts.proofs.Facts.{KeepsCommand}
 use Rattle.tp_facts.proofs.RunFacts.{FactsAt, run_holds}
@@ -72,13 +72,6 @@ attached_in (pair ∷ pairs) n id is =
     (λ (o : Option CommandId). o ≡ Some id → (x : Pair) × IsIn x (pair ∷ pairs) × (x.id ≡ id))
     (λ y e. (pair, inl refl, (let same : pair.id ≡ id = cc in same)))
     (λ m e. let rest = attached_in pairs n id e in (rest.0, inr rest.1, rest.2)) is
-
-any_there : {X : Type 0} (test : X → Bool) (xs : List X) (x : X) → IsIn x xs → test x ≡ true → list_any test xs ≡ true
-any_there test [] x there passes = absurd there
-any_there test (y ∷ ys) x (inl same) passes =
-    or_left (test y) (list_any test ys) (subst (λ (z : _). test z ≡ true) same passes)
-any_there test (y ∷ ys) x (inr later) passes =
-    or_right (test y) (list_any test ys) (any_there test ys x later passes)
 
 -- a process with no step to make has told all its promises
 told_all : (state : ProcessState) → cond (nat_lt state.told state.clock) (Some Announce) None ≡ None
@@ -273,7 +266,7 @@ module _ (script : Script) (older : List Entry) (run : IsTakenIn script older) (
       (same_name_refl (Executor x)) at_y) refl in
       let heard = all_heeded script.topology x (acts older (Executor x)) m (run.took m sent) named
       (λ e. apart (sym e)) in
-      any_there (λ (h : Heard). same_id h.id c.key.id && (h.partition == y.partition.0))
+      any_in (λ (h : Heard). same_id h.id c.key.id && (h.partition == y.partition.0))
       (executor_of script older x).heard (record { id = c.key.id; partition = y.partition.0 }) heard
       (and_from (same_id c.key.id c.key.id) (y.partition.0 == y.partition.0) (same_id_refl c.key.id)
       (eq-eqb y.partition.0 y.partition.0 refl))

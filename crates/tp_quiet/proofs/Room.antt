@@ -26,8 +26,8 @@ use Rattle.tp_rules.proofs.fit.Rules.{process_sound}
 use Rattle.tp_rules.proofs.fit.InRange.{fit_handed_on}
 use Rattle.tp_rules.proofs.lists.Selections.{each_image, each_spread, each_up_to}
 use Rattle.tp_rules.proofs.lists.Tallies.{lower_total, total_bound}
-use Rattle.tp_rules.proofs.ends.Unannounced.{site_listed}
-use Rattle.tp_rules.proofs.lists.UpTo.{flat_length, length-up_to, map_length}
+use Rattle.tp_rules.proofs.ends.Unannounced.{site_listed, sites_few}
+use Rattle.tp_rules.proofs.lists.UpTo.{map_length}
 use Rattle.tp_rules.specs.Acts.{Act, Took, Did}
 use Rattle.tp_rules.specs.Addresses.{site}
 use Rattle.tp_rules.specs.Journal.{IsSent, act_of, acts, ranks_of}
@@ -40,7 +40,7 @@ use Rattle.tp_rules.specs.declared.event.Entry.{Entry}
 use Rattle.tp_script.specs.Accepted.{IsAccepted}
 use Rattle.tp_script.specs.declared.script.Script.{Script}
 use Rattle.tp_topology.specs.Counting.{up_to}
-use Rattle.tp_topology.specs.Shape.{IsShape, is_site_of}
+use Rattle.tp_topology.specs.Shape.{is_site_of}
 use Rattle.tp_wire.specs.declared.message.Body.{Body}
 use Rattle.tp_wire.specs.declared.message.Body.TheVariants.{MSubmit, MStable, MResult}
 use Rattle.tp_wire.specs.declared.message.Message.{Message}
@@ -74,9 +74,6 @@ module _ (script : Script) (accepted : IsAccepted script) where
 
   abbrev pub process_at : List Entry → Site → ProcessState
   process_at older k = state_after rule k (acts older (Process k))
-
-  attached_at : List Entry → Site → ℕ
-  attached_at older k = length (process_at older k).attached
 
   -- how many proposals were made
   unfoldable pub made : List Entry → ℕ
@@ -132,23 +129,6 @@ module _ (script : Script) (accepted : IsAccepted script) where
       ours [] h = tt
       ours (pair ∷ pairs) h = (h.0, ours pairs h.1)
 
-  sites_few : length (sites_of script) ≤ 28
-  sites_few =
-      let shape : IsShape script.topology = accepted.shape in
-      let ranks : (p : ℕ) → length (ranks_of script p) ≤ 7 =
-      (λ p. omega (
-        arith,
-        map_length (site p) (up_to script.topology.replicas),
-        length-up_to script.topology.replicas,
-        shape.few_replicas,
-      )) in
-      omega (
-        arith,
-        flat_length (ranks_of script) 7 (up_to script.topology.partitions) ranks,
-        length-up_to script.topology.partitions,
-        shape.few_partitions,
-      )
-
   -- each site that is listed is one of the script's
   pub listed_is : (k : Site) → IsIn k (sites_of script) → is_site_of script.topology k ≡ true
   listed_is k there =
@@ -167,7 +147,7 @@ module _ (script : Script) (accepted : IsAccepted script) where
   made_few older history =
       let bound = total_bound (λ (k : Site). length (process_at older k).attached) (sites_of script) 1000
       (λ k there. attached_few older history k (listed_is k there)) in
-      omega (arith, bound, sites_few)
+      omega (arith, bound, sites_few script accepted.shape)
 
   -- a process, and what it sent
   pub record IsLowAt (n : ℕ) (k : Site) (list : List Act) : Type 0 where

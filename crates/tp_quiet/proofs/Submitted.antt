@@ -1,10 +1,10 @@
 -- A command that was submitted was sent to its home in each partition that it accesses, each command that an actor of
 -- the run keeps was submitted, and the first commands of a session that it counts as submitted were.
 -- Used for each command in a run in which nothing is pending.
-use Rattle.std.proofs.Common.{◌≡◌, ℕ, suc, inl, inr, true, List, [], ◌∷◌, map, Option, Some, None, sym, ap, subst, ◌∙◌, arith}
+use Rattle.std.proofs.Common.{◌≡◌, ℕ, suc, inl, inr, List, [], ◌∷◌, map, Option, Some, None, sym, ap, subst, ◌∙◌, arith}
 use Rattle.std.specs.Prelude.{◌-◌, option_map, slice_get, unwrap_or}
 use Rattle.std.specs.List.{list_any}
-use Rattle.std.proofs.lemmas.Bool.{and_parts, eqb-true, or_cases}
+use Rattle.std.proofs.lemmas.Bool.{and_parts, or_cases}
 use Rattle.tp_base.proofs.Each.{each_in, each_of}
 use Rattle.tp_base.proofs.Members.{map_in}
 use Rattle.tp_base.proofs.SameNames.{same_name_is}
@@ -30,10 +30,9 @@ use Rattle.tp_rules.specs.Outcome.{is_submission_of, is_submit}
 use Rattle.tp_rules.specs.Runs.{IsFreeHistory, outputs_by}
 use Rattle.tp_rules.specs.Sheet.{ring_rule}
 use Rattle.tp_base.specs.Tables.{nth}
+use Rattle.tp_rules.proofs.ends.Unsubmitted.{submit_event}
 use Rattle.tp_rules.specs.declared.event.Entry.{Entry}
 use Rattle.tp_rules.specs.declared.event.Event.{Event}
-use Rattle.tp_rules.specs.declared.event.Event.TheVariants.{Deliver, Dropped, Inner as OfItself}
-use Rattle.tp_rules.specs.declared.event.Inner.TheVariants.{Submit}
 use Rattle.tp_script.specs.Accepted.{IsAccepted, IsCommandOf, IsHome}
 use Rattle.tp_script.specs.declared.script.Script.{Script}
 use Rattle.tp_wire.specs.declared.message.Body.TheVariants.{MSubmit}
@@ -72,12 +71,6 @@ module _ (script : Script) (accepted : IsAccepted script) where
       (map_in (λ (to : ActorName). message (Session c.id.session) to (MSubmit c))
       (map (λ (q : ℕ). Process (site q client.home)) (accessed script.topology c)) (Process (site p client.home))
       (map_in (λ (q : ℕ). Process (site q client.home)) (accessed script.topology c) p among)))
-
-  submit_event : (n : ℕ) (event : Event) → is_submit n event ≡ true → event ≡ OfItself (Submit n)
-  submit_event n (Deliver entry place) e = absurd cc
-  submit_event n (Dropped entry place) e = absurd cc
-  submit_event n (OfItself (Submit m)) e = ap (λ (k : ℕ). OfItself (Submit k)) (sym (eqb-true n m e))
-  submit_event n (OfItself _) e = absurd cc
 
   -- a submitted command was sent to its home
   pub submission_sent : (older : List Entry) → IsFreeHistory script older → (c : Command) → IsIn c script.commands

@@ -7,11 +7,11 @@ use Rattle.std.proofs.lemmas.Bool.{and_parts, cond_both, eqb-true}
 use Rattle.tp_base.specs.Lists.{IsIn}
 use Rattle.tp_base.specs.Names.{same_id, same_name}
 use Rattle.tp_base.proofs.SameNames.{same_id_is}
+use Rattle.tp_base.proofs.Tests.{all_in}
 use Rattle.tp_base.specs.declared.names.ActorName.TheVariants.{Session}
 use Rattle.tp_base.specs.declared.names.CommandId.{CommandId}
 use Rattle.tp_base.specs.declared.names.PartitionId.{PartitionId}
 use Rattle.tp_facts.proofs.Commands.{accessed_from}
-use Rattle.tp_facts.proofs.Tables.{all_in}
 use Rattle.tp_facts.proofs.Deliveries.{output_is_sent}
 use Rattle.tp_ops.specs.declared.command.Command.{Command}
 use Rattle.tp_ops.specs.declared.operation.Answer.{Answer}

@@ -1,9 +1,10 @@
 -- A session keeps the first result of each partition that was delivered to it. Used for the session's own reply.
-use Rattle.std.proofs.Common.{◌≡◌, ℕ, suc, ◌≤◌, inl, inr, Bool, true, false, cond, List, [], ◌∷◌, length, Option, Some, None, refl, sym, ap, subst, ◌∙◌, arith}
+use Rattle.std.proofs.Common.{◌≡◌, ℕ, ◌≤◌, inl, inr, Bool, true, false, cond, List, [], ◌∷◌, length, Option, Some, None, refl, sym, ap, subst, ◌∙◌, arith}
 use Rattle.std.specs.Option.{option_or}
 use Rattle.std.specs.Prelude.{is_none, nat_le, option_map, ◌==◌, ◌&&◌}
 use Rattle.std.specs.List.{list_any}
 use Rattle.std.proofs.lemmas.Bool.{and_from, and_parts, cases_Bool, cond_both, cond-true, eq-eqb, eqb-true, le-leb}
+use Rattle.tp_base.proofs.Options.{or_none}
 use Rattle.tp_base.proofs.Ranges.{range_in}
 use Rattle.tp_base.proofs.Tables.{kept_here}
 use Rattle.tp_base.specs.Names.{same_id, same_name}
@@ -17,9 +18,8 @@ use Rattle.tp_facts.proofs.Commands.{accessed_from}
 use Rattle.tp_facts.proofs.Deliveries.{output_is_sent}
 use Rattle.tp_ops.specs.declared.command.Command.{Command}
 use Rattle.tp_ops.specs.declared.operation.Answer.{Answer}
-use Rattle.tp_ops.specs.declared.operation.Op.{Op}
 use Rattle.tp_ops.specs.Parts.{is_accessed, is_on, ops_on}
-use Rattle.tp_ops.specs.Store.{Contents, after, answers_of, empty}
+use Rattle.tp_ops.specs.Store.{empty}
 use Rattle.tp_rules.specs.Acts.{Act, Took, Client}
 use Rattle.tp_rules.specs.Addresses.{is_name_of, is_body_at}
 use Rattle.tp_rules.specs.Journal.{act_of, acts, client_of, output_at, with_act, IsSent}
@@ -43,15 +43,7 @@ use Rattle.tp_replies.proofs.SentResults.{result_is}
 use Rattle.tp_replies.proofs.Line.{executed_in_line, line_submitted}
 use Rattle.tp_replies.proofs.SessionCommands.{command_at}
 use Rattle.tp_replies.proofs.SessionTables.{has_places, kept_elsewhere, none_kept}
-
-or_none : (o : Option (List Answer)) → option_or o None ≡ o
-or_none None = refl
-or_none (Some answers) = refl
-
--- each operation has one answer
-answers_many : (ops : List Op) (contents : Contents) → length (answers_of ops contents) ≡ length ops
-answers_many [] contents = refl
-answers_many (op ∷ ops) contents = ap (λ (n : ℕ). suc n) (answers_many ops (after op contents))
+use Rattle.tp_rules.proofs.fit.Executors.{answers_many}
 
 -- a command, and a partition that it accesses
 module _ (script : Script) (accepted : IsAccepted script) (id : CommandId) (c : Command)

@@ -1,53 +1,34 @@
 -- Commands by their identifiers, among all and in their session. Used for submissions, for replies and for sessions.
-use Rattle.std.proofs.Common.{◌≡◌, ℕ, zero, suc, ◌≤◌, inl, inr, Bool, true, List, [], ◌∷◌, length, Option, Some, None, refl, sym, ap, ◌∙◌}
-use Rattle.std.specs.Prelude.{find, slice_get, ◌==◌}
-use Rattle.std.proofs.lemmas.Bool.{cond_both, eq-eqb, eqb-true}
-use Rattle.std.proofs.lemmas.Option.{slice_get_within}
+use Rattle.std.proofs.Common.{◌≡◌, ℕ, zero, suc, ◌≤◌, true, List, length, Option, Some, None, refl, sym, ap, ◌∙◌}
+use Rattle.std.specs.Prelude.{◌==◌}
+use Rattle.std.proofs.lemmas.Bool.{eq-eqb, eqb-true}
 use Rattle.tp_base.specs.Lists.{IsIn}
 use Rattle.tp_base.specs.Names.{same_id}
 use Rattle.tp_base.proofs.Members.{get_in, in_get}
 use Rattle.tp_base.proofs.SameNames.{same_id_is}
+use Rattle.tp_base.proofs.Tests.{found_in}
 use Rattle.tp_base.specs.Tables.{nth}
 use Rattle.tp_base.specs.declared.names.CommandId.{CommandId}
 use Rattle.tp_base.specs.declared.names.SessionId.{SessionId}
-use Rattle.tp_facts.proofs.Commands.{command_is}
+use Rattle.tp_facts.proofs.Commands.{command_is, number_is}
 use Rattle.tp_ops.specs.declared.command.Command.{Command}
 use Rattle.tp_rules.specs.Journal.{commands_of}
 use Rattle.tp_rules.specs.Outcome.{command_of}
 use Rattle.tp_rules.proofs.fit.Messages.{command_in_range}
 use Rattle.tp_rules.proofs.lists.Tallies.{filter_in, in_filter}
-use Rattle.tp_rules.proofs.lists.UpTo.{get_map, get_up_to}
-use Rattle.tp_script.specs.Accepted.{IsAccepted, commands_by}
+use Rattle.tp_script.specs.Accepted.{IsAccepted}
 use Rattle.tp_script.specs.declared.script.Script.{Script}
-
--- what is found is in the list, and passes the test
-find_in : {X : Type 0} (test : X → Bool) (xs : List X) (x : X) → find test xs ≡ Some x → IsIn x xs × (test x ≡ true)
-find_in test [] x e = absurd cc
-find_in test (y ∷ ys) x e =
-    cond_both (test y) (Some y) (find test ys) (λ (o : Option _). o ≡ Some x → IsIn x (y ∷ ys) × (test x ≡ true))
-    (λ passes found. let same : y ≡ x = cc in (inl (sym same), ap test (sym same) ∙ passes))
-    (λ fails found. let rest = find_in test ys x found in (inr rest.0, rest.1)) e
 
 -- the command of an identifier is one of the script's, and is named so
 found : (script : Script) (id : CommandId) (c : Command) → command_of script id ≡ Some c
     → IsIn c script.commands × (c.id ≡ id)
 found script id c is =
-    let it = find_in (λ (d : Command). same_id d.id id) script.commands c is in (it.0, same_id_is c.id id it.1)
+    let it = found_in (λ (d : Command). same_id d.id id) script.commands c is in (it.0, same_id_is c.id id it.1)
 
 module _ (script : Script) (accepted : IsAccepted script) where
   -- it has an operation
   pub some_operation : (id : CommandId) (c : Command) → command_of script id ≡ Some c → 1 ≤ length c.ops
   some_operation id c is = let range = command_in_range script c accepted (found script id c is).0 in range.2.0
-
-  -- a session's commands are numbered from 1
-  number_is : (s i : ℕ) (c : Command) → slice_get (commands_by s script.commands) i ≡ Some c → c.id.number ≡ suc i
-  number_is s i c at =
-      let own : List Command = commands_by s script.commands in
-      let same : Some c.id.number ≡ Some (suc i) =
-      sym (get_map (λ (d : Command). d.id.number) own i c at)
-      ∙ ap (λ (ns : List ℕ). slice_get ns i) (accepted.numbered s)
-      ∙ get_up_to (length own) i (slice_get_within own i c at) in
-      cc
 
   -- the command at a session's number is one of the script's, and is named so
   pub named : (s : SessionId) (n : ℕ) (c : Command) → nth (commands_of script s) n ≡ Some c
@@ -57,7 +38,7 @@ module _ (script : Script) (accepted : IsAccepted script) where
       let there : IsIn c (commands_of script s) = in_get (commands_of script s) i c at in
       let own = filter_in (λ (d : Command). d.id.session.0 == s.0) script.commands c there in
       let session : c.id.session.0 ≡ s.0 = eqb-true c.id.session.0 s.0 own.1 in
-      let number : c.id.number ≡ suc i = number_is s.0 i c at in
+      let number : c.id.number ≡ suc i = number_is (commands_of script s) i c (accepted.numbered s.0) at in
       (own.0, λ k. record { session = record { 0 = session k }; number = number k })
 
   -- the command of an identifier is the one at its number among its session's
@@ -84,5 +65,6 @@ module _ (script : Script) (accepted : IsAccepted script) where
           let place = get_in own c
           (in_filter (λ (d : Command). d.id.session.0 == id.session.0) script.commands c it.0 session) in
           let number : id.number ≡ suc place.0 =
-          ap (λ (i : CommandId). i.number) (sym it.1) ∙ number_is id.session.0 place.0 c place.1 in
+          ap (λ (i : CommandId). i.number) (sym it.1)
+          ∙ number_is own place.0 c (accepted.numbered id.session.0) place.1 in
           ap (nth own) number ∙ place.1
