@@ -134,6 +134,3 @@ module _ (from : ActorName) (names : ℕ → List ActorName) (body : Body) (f g 
       ∙ ap (λ (l : List ActorName). flat_map names (passing f g n) ++ l) (append-nil (names (n + 1))) in
       more ∙ ap (λ (ms : List Message). ms ++ to_each from (names (n + 1)) body) e
       ∙ sym (ap (λ (l : List ActorName). to_each from l body) next ∙ map-append (λ to. message from to body) (flat_map names (passing f g n)) (names (n + 1)))
-
-  pub sent_same : (xs ys : List Message) (n : ℕ) → (f (n + 1) && g (n + 1)) ≡ false → xs ≡ sent_to n → ys ≡ xs → ys ≡ sent_to (n + 1)
-  sent_same xs ys n fails e same = same ∙ e ∙ ap (λ (ks : List ℕ). to_each from (flat_map names ks) body) (sym (next_fails f g n fails))

@@ -2,7 +2,7 @@
 use Rattle.std.proofs.Common.{◌≡◌, ℕ, ◌≤◌, ◌<◌, Bool, true, false, not, ◌&&◌, ◌||◌, cond, List, [], ◌∷◌, map, Option, Some, None, refl, ap, subst, ◌∙◌, arith}
 use Rattle.std.specs.List.{list_all, list_any}
 use Rattle.std.specs.Prelude.{◌==◌, find, Err}
-use Rattle.std.proofs.lemmas.Bool.{and_parts, le-leb, leb-true}
+use Rattle.std.proofs.lemmas.Bool.{le-leb, leb-true}
 use Rattle.tp_base.specs.Lists.{has}
 use Rattle.tp_base.specs.Names.{same_id}
 use Rattle.tp_base.specs.declared.names.CommandId.{CommandId}
@@ -73,10 +73,6 @@ unready_is state id (r ∷ qs) q some = go (has same_id id state.declared) (not_
     go : (b : Bool) → list_all (is_heard state id) (r ∷ qs) ≡ false → (b && list_all (is_heard state id) (r ∷ qs)) ≡ false
     go true e = e
     go false e = refl
-
-pub ready_declared : (state : ExecutorState) (id : CommandId) (qs : List ℕ) → is_ready state id qs ≡ true → is_undeclared state id qs ≡ false
-ready_declared state id [] ready = refl
-ready_declared state id (q ∷ qs) ready = ap not (and_parts (has same_id id state.declared) (list_all (is_heard state id) (q ∷ qs)) ready).0
 
 -- which stamps are stable
 

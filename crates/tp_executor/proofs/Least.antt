@@ -1,17 +1,18 @@
 -- The least key of a queue is that of the rules. Used by all steps.
-use Rattle.std.proofs.Common.{◌≡◌, ◌⊎◌, inl, inr, Bool, true, false, not, ◌||◌, cond, List, [], ◌∷◌, map, Option, Some, None, refl, sym, ap, subst, ◌∙◌, arith}
+use Rattle.std.proofs.Common.{◌≡◌, ◌⊎◌, inl, inr, Bool, true, false, not, ◌||◌, cond, List, [], ◌∷◌, map, Some, None, refl, sym, ap, subst, ◌∙◌}
 use Rattle.std.specs.List.{list_any}
 use Rattle.std.specs.Prelude.{filter}
 use Rattle.tp_base.proofs.Each.{each_in}
 use Rattle.tp_base.proofs.Members.{in_map, map_in}
-use Rattle.tp_base.proofs.SameNames.{key_cases, key_lt_self, key_lt_then, same_id_sym}
+use Rattle.tp_base.proofs.SameNames.{same_id_sym}
 use Rattle.tp_base.specs.Lists.{IsIn, has}
 use Rattle.tp_base.specs.Names.{key_lt, same_id}
 use Rattle.tp_base.specs.declared.names.CommandId.{CommandId}
-use Rattle.tp_base.specs.declared.names.Key.{Key}
 use Rattle.tp_queue.specs.Waiting.{Entry, IsLeast, left, was_put}
 use Rattle.tp_rules.specs.Executor.{Committed, ExecutorState, committed_ids, least, lesser, waiting}
 use Rattle.tp_executor.specs.States.{calls_of}
+use Rattle.tp_rules.proofs.LeastKey.{least_at_most}
+use Rattle.tp_rules.proofs.ends.Unexecuted.{least_in}
 
 abbrev pub entry_of : Committed → Entry
 entry_of c = record { key = c.key; command = c.command }
@@ -44,74 +45,13 @@ left_waits done (c ∷ cs) = go (has same_id c.key.id done) (left_waits done cs)
     go true rest = rest
     go false rest = ap (λ (es : List Entry). entry_of c ∷ es) rest
 
--- the least of the rules is in the list, and none is below it
-
-pub least_in : (cs : List Committed) (x : Committed) → least cs ≡ Some x → IsIn x cs
-least_in [] x e = absurd cc
-least_in (c ∷ cs) x e = go (least cs) e (least_in cs x)
-  where
-    pick : (d : Committed) (b : Bool) → Some (cond b d c) ≡ Some x → (Some d ≡ Some x → IsIn x cs) → (x ≡ c) ⊎ IsIn x cs
-    pick d true e rest = inr (rest e)
-    pick d false e rest = let same : x ≡ c = cc in inl same
-
-    go : (o : Option Committed) → Some (lesser c o) ≡ Some x → (o ≡ Some x → IsIn x cs) → (x ≡ c) ⊎ IsIn x cs
-    go None e rest = let same : x ≡ c = cc in inl same
-    go (Some d) e rest = pick d (key_lt d.key c.key) e rest
-
-asymmetric : (a b : Key) → key_lt a b ≡ true → key_lt b a ≡ false
-asymmetric a b e = grind arith
-
--- what is not below d, which is not below c, is not below c
-not_below : (e d c : Key) → key_lt e d ≡ false → key_lt d c ≡ false → key_lt e c ≡ false
-not_below e d c p q = go (key_lt e c) refl
-  where
-    go : (b : Bool) → key_lt e c ≡ b → b ≡ false
-    go false r = refl
-    go true r = elim (key_cases d c) [
-      | inl same ↦ let below : key_lt e d ≡ true = subst (λ (k : Key). key_lt e k ≡ true) (sym same) r in absurd cc
-      | inr (inl below) ↦ absurd cc
-      | inr (inr above) ↦ let below : key_lt e d ≡ true = key_lt_then e c d r above in absurd cc
-    ]
-
-low_in : (c d x e : Committed) (b : Bool) → key_lt d.key c.key ≡ b → Some (cond b d c) ≡ Some x
-    → (e ≡ c) ⊎ (key_lt e.key d.key ≡ false) → key_lt e.key x.key ≡ false
-low_in c d x e true test is (inl here) =
-    let same : x ≡ d = cc in
-    subst (λ (y : Committed). key_lt e.key y.key ≡ false) (sym same) (subst (λ (y : Committed). key_lt y.key d.key ≡ false) (sym here) (asymmetric d.key c.key test))
-low_in c d x e true test is (inr later) =
-    let same : x ≡ d = cc in
-    subst (λ (y : Committed). key_lt e.key y.key ≡ false) (sym same) later
-low_in c d x e false test is (inl here) =
-    let same : e ≡ x = cc in
-    subst (λ (y : Committed). key_lt e.key y.key ≡ false) same (key_lt_self e.key)
-low_in c d x e false test is (inr later) =
-    let same : x ≡ c = cc in
-    subst (λ (y : Committed). key_lt e.key y.key ≡ false) (sym same) (not_below e.key d.key c.key later test)
-
-none_in : (cs : List Committed) (e : Committed) → least cs ≡ None → IsIn e cs → ⊥
-none_in [] e none h = h
-none_in (c ∷ cs) e none h = absurd cc
-
-least_low : (cs : List Committed) (x : Committed) → least cs ≡ Some x → (e : Committed) → IsIn e cs → key_lt e.key x.key ≡ false
-least_low [] x is e h = absurd h
-least_low (c ∷ cs) x is e h = go (least cs) refl is h (λ d first later. least_low cs d first e later)
-  where
-    go : (o : Option Committed) → least cs ≡ o → Some (lesser c o) ≡ Some x → (e ≡ c) ⊎ IsIn e cs
-        → ((d : Committed) → least cs ≡ Some d → IsIn e cs → key_lt e.key d.key ≡ false) → key_lt e.key x.key ≡ false
-    go None first is (inl here) rest =
-        let same : e ≡ x = cc in
-        subst (λ (y : Committed). key_lt e.key y.key ≡ false) same (key_lt_self e.key)
-    go None first is (inr later) rest = absurd (none_in cs e first later)
-    go (Some d) first is (inl here) rest = low_in c d x e (key_lt d.key c.key) refl is (inl here)
-    go (Some d) first is (inr later) rest = low_in c d x e (key_lt d.key c.key) refl is (inr (rest d first later))
-
 -- so it is the least of a queue
 
 same_least : (cs : List Committed) (x m : Committed) → least cs ≡ Some x → IsLeast (Some (entry_of m)) (map entry_of cs) → x ≡ m
 same_least cs x m first is =
     let found = in_map entry_of cs (entry_of m) is.0 in
     let there : IsIn m cs = subst (λ (e : Entry). IsIn (record { key = e.key; command = e.command }) cs) (sym found.2) found.1 in
-    let low : key_lt m.key x.key ≡ false = least_low cs x first m there in
+    let low : key_lt m.key x.key ≡ false = least_at_most cs x m first there in
     elim (each_in (λ (e : Entry). (e ≡ entry_of m) ⊎ (key_lt m.key e.key ≡ true)) (map entry_of cs) (entry_of x) is.1 (map_in entry_of cs x (least_in cs x first))) [
       | inl same ↦ ap (λ (e : Entry). record { key = e.key; command = e.command }) same
       | inr below ↦ absurd cc

@@ -1,6 +1,6 @@
 -- How an executor's fields go on with the state of the rules. Used by the functions of each step.
-use Rattle.std.proofs.Common.{◌≡◌, ℕ, inl, inr, Bool, true, false, not, cond, List, [], ◌∷◌, Option, Some, None, Result, Ok, Err, refl, sym, ap, subst, ◌∙◌}
-use Rattle.std.specs.Prelude.{filter, IfOk, OnOk}
+use Rattle.std.proofs.Common.{◌≡◌, ℕ, inl, inr, Bool, true, false, not, cond, List, [], ◌∷◌, Option, Some, None, refl, sym, ap, subst, ◌∙◌}
+use Rattle.std.specs.Prelude.{filter}
 use Rattle.tp_base.specs.declared.names.ActorName.TheVariants.{Executor as ExecutorName, Session}
 use Rattle.tp_base.specs.declared.names.CommandId.{CommandId}
 use Rattle.tp_base.specs.declared.names.Site.{Site}
@@ -26,9 +26,10 @@ use Rattle.tp_topology.specs.Shape.{Shape}
 use Rattle.tp_topology.specs.Stability.{Telling}
 use Rattle.tp_wire.specs.declared.message.Body.TheVariants.{MResult}
 use Rattle.tp_wire.specs.declared.message.Message.{Message}
-use Rattle.tp_executor.proofs.Least.{entry_of, first_waits, least_in, none_waits, was_committed}
+use Rattle.tp_executor.proofs.Least.{entry_of, first_waits, none_waits, was_committed}
 use Rattle.tp_executor.specs.States.{IsState, Stands, calls_of, declarations_of, identity}
 use Rattle.tp_executor.specs.declared.executor.Executor.{Executor}
+use Rattle.tp_rules.proofs.ends.Unexecuted.{least_in}
 
 -- the fields beside the declarations
 pub record SameBesideDeclared (e e' : Executor) : Type 0 where
@@ -202,11 +203,3 @@ executes_sends e m answers outputs first answered sent state st =
     ∙ ap (λ (a : List Answer). message (ExecutorName e.site) (Session m.command.id.session) (MResult m.command.id e.site.partition a) ∷ [])
     (answered ∙ ap (λ (contents : Contents). answers_of ops contents) st.contents)
     ∙ ap (λ (o : Option Committed). (execute_least e.topology e.site o state).1) (sym (first_of e m state first st))
-
-pub if_ok : {T E : Type 0} (r : Result T E) (P Q : T → Type 0) → ((x : T) → P x → Q x) → IfOk r P → IfOk r Q
-if_ok (Ok x) P Q f h = f x h
-if_ok (Err e) P Q f h = tt
-
-pub always : {T E P : Type 0} (r : Result T E) → P → OnOk r P
-always (Ok x) h = h
-always (Err e) h = tt

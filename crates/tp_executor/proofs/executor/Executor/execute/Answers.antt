@@ -1,10 +1,11 @@
 use Rattle.std.proofs.Common.{ℕ, List, refl, sym, ap, ◌∙◌}
+use Rattle.tp_base.proofs.Options.{if_ok, on_any}
 use Rattle.tp_ops.specs.declared.operation.Op.{Op}
 use Rattle.tp_ops.specs.Parts.{ops_on}
 use Rattle.tp_ops.specs.Store.{after_all, answers_of}
 use Rattle.tp_rules.specs.Executor.{Committed, Step}
 use Rattle.tp_store.specs.Values.{contents_of}
-use Rattle.tp_executor.proofs.Steps.{always, executes, executes_none, executes_sends, if_ok, takes_none}
+use Rattle.tp_executor.proofs.Steps.{executes, executes_none, executes_sends, takes_none}
 use Rattle.tp_executor.proofs.executor.Executor.execute.Goals as goal
 
 pub returns-in_default-clause-outputs : goal.returns-in_default-clause-outputs
@@ -29,6 +30,6 @@ returns-clause-state c =
     let e = c.args.self.now in
     let m : Committed = record { key = c.in-Some.field-0-0; command = c.in-Some.command } in
     let ops = ap (λ (n : ℕ). ops_on n e.site.partition.0 c.in-Some.command.ops) c.partitions-partitions.ensures.value in
-    always c.result_of.result
+    on_any c.result_of.result
     (executes e _ m c.in-Some.ensures.least c.in-Some.ensures.taken refl refl
     (c.in_ok-answers.ensures.contents ∙ ap (λ (o : List Op). after_all o (contents_of e.store)) ops))
