@@ -43,12 +43,12 @@ output_next a n i ms m before within e =
 
 -- one entry after the others
 
-late : (a : ActorName) (number n k : ℕ) (ms : List Message) → number < n
+pub numbered_later : (a : ActorName) (number n k : ℕ) (ms : List Message) → number < n
     → filter (λ (p : Parcel). nat_lt number p.entry && is_for a p) (numbered n k ms) ≡ filter (is_for a) (numbered n k ms)
-late a number n k [] lt = refl
-late a number n k (m ∷ ms) lt =
+numbered_later a number n k [] lt = refl
+numbered_later a number n k (m ∷ ms) lt =
     let p : Parcel = parcel n k m in
-    let rest = late a number n (suc k) ms lt in
+    let rest = numbered_later a number n (suc k) ms lt in
     let same : (nat_lt number n && is_for a p) ≡ is_for a p = ap (λ (b : Bool). b && is_for a p) (lt-ltb number n lt) in
     ap (λ (b : Bool). cond b (p ∷ filter (λ (q : Parcel). nat_lt number q.entry && is_for a q) (numbered n (suc k) ms)) (filter (λ (q : Parcel). nat_lt number q.entry && is_for a q) (numbered n (suc k) ms))) same
     ∙ ap (λ (l : List Parcel). cond (is_for a p) (p ∷ l) l) rest
@@ -63,7 +63,7 @@ entry_next a number i journal e le within at =
     ap (λ (l : List Entry). sent (reverse l)) (one_more journal i e at) ∙ sent_more before e ∙ ap (λ (n : ℕ). sent (reverse before) ++ numbered n 1 e.outputs) number_is in
     sym (ap (filter (λ (p : Parcel). nat_lt number p.entry && is_for a p)) more
     ∙ filter-append (λ (p : Parcel). nat_lt number p.entry && is_for a p) (sent (reverse before)) (numbered (i + 1) 1 e.outputs)
-    ∙ ap (λ (l : List Parcel). parcels_for a number before ++ l) (late a number (i + 1) 1 e.outputs (omega arith)))
+    ∙ ap (λ (l : List Parcel). parcels_for a number before ++ l) (numbered_later a number (i + 1) 1 e.outputs (omega arith)))
 
 -- none is behind the number yet
 pub none_behind : (a : ActorName) (number : ℕ) (journal : List Entry) → parcels_for a number (take number journal) ≡ []

@@ -5,6 +5,7 @@ use Rattle.std.specs.List.{position, position_or_len}
 use Rattle.std.specs.Option.{option_and_then}
 use Rattle.std.specs.Prelude.{nat_lt}
 use Rattle.std.proofs.lemmas.Bool.{cases_Bool, cond-true, le-ltb, lt-ltb, ltb-false, ltb-true}
+use Rattle.tp_base.proofs.Options.{absent}
 use Rattle.tp_base.specs.Lists.{IsIn}
 use Rattle.tp_base.specs.declared.names.ActorName.{ActorName}
 use Rattle.tp_base.specs.declared.names.Site.{Site}
@@ -124,15 +125,11 @@ found_behind s looked journal long none =
     by_number None = refl
     by_number (Some i) = ap (λ (n : ℕ). Some (n + i + 1)) (sym long)
 
-nothing_found : (crash : Option ℕ) → is_some crash ≡ false → crash ≡ None
-nothing_found None e = refl
-nothing_found (Some n) e = absurd cc
-
 pub found_of : (actor : Option ActorName) (crash : Option ℕ) (a : ActorName) (s : Site) (looked : ℕ) (journal : List Entry) → actor ≡ Some a → site_of a ≡ Some s
     → looked ≤ length journal → is_some crash ≡ false → crash ≡ crash_in actor (take looked journal)
     → option_map (λ i. looked + i + 1) (position (is_crash_of s) (drop looked journal)) ≡ crash_in actor journal
 found_of actor crash a s looked journal is at within new known =
-    let none : crash_in actor (take looked journal) ≡ None = sym known ∙ nothing_found crash new in
+    let none : crash_in actor (take looked journal) ≡ None = sym known ∙ absent crash new in
     let in_all : crash_in actor journal ≡ first_crash s journal = ap (λ (o : Option ActorName). crash_in o journal) is ∙ of_site a s journal at in
     let in_some : crash_in actor (take looked journal) ≡ first_crash s (take looked journal) =
     ap (λ (o : Option ActorName). crash_in o (take looked journal)) is ∙ of_site a s (take looked journal) at in

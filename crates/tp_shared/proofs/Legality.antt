@@ -2,14 +2,14 @@
 -- legality rests on the actor's own entries and on outputs alone. The one fact about legality that a desk's user needs: the actor
 -- runs without the turn, and its entry is entered with it.
 use Rattle.std.proofs.Common.{◌≡◌, ◌<◌, ◌+◌, ◌&&◌, ℕ, suc, inl, inr, Bool, true, false, List, [], ◌∷◌, ◌++◌, Option, Some, None, ◌==◌, ◌||◌, not, filter, length, reverse, refl, sym, ap, subst, ◌∙◌, append_assoc, length-append, arith}
-use Rattle.std.specs.List.{list_any}
 use Rattle.std.specs.Prelude.{option_map, position, slice_get}
 use Rattle.tp_base.proofs.Members.{in_reversed}
 use Rattle.std.proofs.lemmas.Bool.{cases_Bool, and_parts, cond-false, eqb-true, ne_eqb}
 use Rattle.std.proofs.lemmas.List.{append-nil}
 use Rattle.tp_base.proofs.Ends.{reverse_push, snoc_ind}
 use Rattle.tp_base.proofs.SameNames.{same_name_refl}
-use Rattle.tp_base.specs.Lists.{IsIn, IsPrefixOf}
+use Rattle.tp_base.proofs.Tests.{none_pass}
+use Rattle.tp_base.specs.Lists.{IsPrefixOf}
 use Rattle.tp_base.specs.Names.{same_name}
 use Rattle.tp_base.specs.declared.names.ActorName.{ActorName}
 use Rattle.tp_base.specs.declared.names.ActorName.TheVariants.{Process, Executor, Session}
@@ -184,14 +184,14 @@ not_or : (x y : Bool) → not (x || y) ≡ true → not y ≡ true
 not_or true y h = absurd cc
 not_or false y h = h
 
-lived : (older : List Entry) (new : Entry) (a : ActorName) → is_live (new ∷ older) a ≡ true → is_live older a ≡ true
+pub lived : (older : List Entry) (new : Entry) (a : ActorName) → is_live (new ∷ older) a ≡ true → is_live older a ≡ true
 lived older new (Process s) h = not_or (same_name new.actor (Process s) && is_crash new.event) (has_crashed older s) h
 lived older new (Executor s) h = not_or (same_name new.actor (Process s) && is_crash new.event) (has_crashed older s) h
 lived older new (Session id) h = refl
 
 -- no entry of an actor
 
-first_none : (a : ActorName) (xs : List Entry) (x : Entry) → entries_by a (xs ++ x ∷ []) ≡ [] → (entries_by a xs ≡ []) × (same_name x.actor a ≡ false)
+pub first_none : (a : ActorName) (xs : List Entry) (x : Entry) → entries_by a (xs ++ x ∷ []) ≡ [] → (entries_by a xs ≡ []) × (same_name x.actor a ≡ false)
 first_none a xs x h =
     let lengths : length (entries_by a xs) + length (entries_by a (x ∷ [])) ≡ 0 =
     sym (ap length (by_append a xs (x ∷ [])) ∙ length-append (entries_by a xs) (entries_by a (x ∷ []))) ∙ ap length h in
@@ -227,12 +227,8 @@ later script before e was more = snoc_ind Goes none next more
 
 -- a site without a crash lives
 
-none_passes : {X : Type 0} (p : X → Bool) (xs : List X) → ((x : X) → IsIn x xs → p x ≡ false) → list_any p xs ≡ false
-none_passes p [] h = refl
-none_passes p (x ∷ xs) h = ap (λ (b : Bool). b || list_any p xs) (h x (inl refl)) ∙ none_passes p xs (λ y k. h y (inr k))
-
 site_lives : (s : Site) (journal : List Entry) → first_crash s journal ≡ None → has_crashed (reverse journal) s ≡ false
-site_lives s journal none = none_passes (is_crash_of s) (reverse journal) (λ x h.
+site_lives s journal none = none_pass (is_crash_of s) (reverse journal) (λ x h.
     nowhere_passes (is_crash_of s) journal x (not_at (position (is_crash_of s) journal) none) (in_reversed journal x h))
   where
     not_at : (o : Option ℕ) → option_map (λ i. i + 1) o ≡ None → o ≡ None
