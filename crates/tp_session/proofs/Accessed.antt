@@ -1,9 +1,8 @@
 -- Filters and tests over the numbers from 1 up.
-use Rattle.std.proofs.Common.{◌≡◌, ℕ, zero, suc, ◌+◌, ◌≤◌, inl, inr, Bool, true, false, ◌&&◌, cond, List, [], ◌∷◌, ◌++◌, map, refl, sym, ap, subst, ◌∙◌, arith}
+use Rattle.std.proofs.Common.{◌≡◌, ℕ, zero, suc, ◌+◌, ◌≤◌, inl, inr, Bool, true, false, ◌&&◌, cond, [], ◌∷◌, ◌++◌, refl, sym, ap, subst, ◌∙◌, arith}
 use Rattle.std.specs.Prelude.{filter}
 use Rattle.std.specs.List.{list_all}
 use Rattle.std.proofs.lemmas.Bool.{and_from, and_left, and_right, cases_eq}
-use Rattle.std.proofs.lemmas.List.{map-append}
 use Rattle.std.proofs.lemmas.List.Elements.{filter-append}
 use Rattle.std.proofs.lemmas.List.Folds.{list_all-append}
 use Rattle.tp_topology.specs.Counting.{up_to}
@@ -45,16 +44,3 @@ all_fails f g (suc n) k low high passes fails =
           more ∙ and_right _ _ (ap (λ (b : Bool). list_all f (cond b (suc n ∷ []) [])) here ∙ and_left _ _ last)
       | inr apart ↦ more ∙ and_left _ _ (all_fails f g n k low (omega arith) passes fails)
     ]
-
--- what is made of the numbers that pass, with one more
-pub map_up_to : {X Y : Type 0} (h : X → Y) (f : ℕ → X) (g : ℕ → Bool) (n : ℕ)
-    → map h (map f (filter g (up_to (n + 1)))) ≡ map h (map f (filter g (up_to n))) ++ cond (g (n + 1)) (h (f (n + 1)) ∷ []) []
-map_up_to {X} {Y} h f g n =
-    ap (λ (xs : List ℕ). map h (map f xs)) (filter_up_to g n)
-    ∙ ap (map h) (map-append f (filter g (up_to n)) (cond (g (n + 1)) ((n + 1) ∷ []) []))
-    ∙ map-append h (map f (filter g (up_to n))) (map f (cond (g (n + 1)) ((n + 1) ∷ []) []))
-    ∙ ap (λ (ys : List Y). map h (map f (filter g (up_to n))) ++ ys) (last (g (n + 1)))
-  where
-    last : (b : Bool) → map h (map f (cond b ((n + 1) ∷ []) [])) ≡ cond b (h (f (n + 1)) ∷ []) []
-    last true = refl
-    last false = refl

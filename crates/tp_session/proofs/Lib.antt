@@ -1,4 +1,3 @@
 pub mod Accessed
 pub mod Tables
-pub mod Counts
 pub mod Steps

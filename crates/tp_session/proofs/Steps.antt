@@ -1,5 +1,5 @@
 -- How a session's fields go on with the state of the rules.
-use Rattle.std.proofs.Common.{◌≡◌, ◌≢◌, ℕ, ◌+◌, ◌-◌, ◌≤◌, inl, inr, Bool, true, false, not, ◌&&◌, cond, List, [], ◌∷◌, ◌++◌, length, set, take, replicate, Some, None, refl, sym, ap, subst, ◌∙◌, arith}
+use Rattle.std.proofs.Common.{◌≡◌, ◌≢◌, ℕ, suc, ◌+◌, ◌-◌, ◌≤◌, inl, inr, Bool, true, false, not, ◌&&◌, cond, List, [], ◌∷◌, ◌++◌, length, set, take, replicate, Some, None, refl, sym, ap, subst, ◌∙◌, arith}
 use Rattle.std.specs.Prelude.{◌==◌, nat_le}
 use Rattle.std.proofs.lemmas.Bool.{and_parts, cases_eq, cond-true, cond-false, eq-eqb, leb-true, ne_eqb, not_from_true, not_from_false}
 use Rattle.std.proofs.lemmas.List.{length-set, length_push}
@@ -14,8 +14,8 @@ use Rattle.tp_topology.specs.Counting.{count_up_to}
 use Rattle.tp_topology.specs.Shape.{Shape}
 use Rattle.tp_session.specs.declared.session.Session.{Session}
 use Rattle.tp_session.specs.States.{IsState, client, identity, parts_at, table}
-use Rattle.tp_session.proofs.Counts.{count_less, count_more, count_same}
 use Rattle.tp_session.proofs.Tables.{Table, awaited_open, awaited_some, parts_at-push, parts_at-set_other, parts_at-set_same}
+use Rattle.tp_topology.proofs.Passing.{count_next, count_same, count_with_one}
 
 -- whether a command's number is not answered
 abbrev is_open : Shape → (ℕ → Table) → List Command → ℕ → Bool
@@ -58,7 +58,7 @@ submitted s s' n same next kept unanswered state st =
           ∙ swapped (is_whole s.topology (state.kept n) (nth s.commands n)) s.unanswered
           ∙ ap (λ (k : ℕ). cond (is_open s.topology state.kept s.commands k) (s.unanswered + 1) s.unanswered) at
           ∙ ap (λ (u : ℕ). cond (is_open s.topology state.kept s.commands (state.submitted + 1)) (u + 1) u) st.unanswered
-          ∙ sym (count_more (is_open s.topology state.kept s.commands) state.submitted)
+          ∙ sym (count_next (is_open s.topology state.kept s.commands) state.submitted)
           ∙ ap (count_up_to (is_open s.topology state.kept s.commands)) (sym at)
           ∙ sym (open_same s s' (on_submit s.topology (client s) n state).0 same);
     }
@@ -91,8 +91,8 @@ counts : (s : Session) (state : SessionState) (new : ℕ → Table) (n : ℕ) �
     → (b : Bool) → is_whole s.topology (new n) (nth s.commands n) ≡ b
     → cond b (s.unanswered - 1) s.unanswered ≡ count_up_to (is_open s.topology new s.commands) state.submitted
 counts s state new n st some most was others true whole =
-    let less : count_up_to (is_open s.topology state.kept s.commands) state.submitted ≡ count_up_to (is_open s.topology new s.commands) state.submitted + 1 =
-    count_less (is_open s.topology state.kept s.commands) (is_open s.topology new s.commands) state.submitted n some most was (not_from_true _ whole) others in
+    let less : count_up_to (is_open s.topology state.kept s.commands) state.submitted ≡ suc (count_up_to (is_open s.topology new s.commands) state.submitted) =
+    count_with_one (is_open s.topology new s.commands) (is_open s.topology state.kept s.commands) state.submitted n some most (not_from_true _ whole) was others in
     omega (arith, st.unanswered, less)
 counts s state new n st some most was others false part =
     st.unanswered ∙ count_same (is_open s.topology state.kept s.commands) (is_open s.topology new s.commands) state.submitted (λ k low high. elim (cases_eq k n) [
