@@ -1,12 +1,13 @@
 -- The four laws of a journal by tests that compute. Used for each whole run of this crate.
 use Rattle.std.proofs.Common.{◌≡◌, ℕ, ◌==◌, ◌≤◌, ◌&&◌, ◌||◌, not, inl, inr, Bool, true, false, List, [], ◌∷◌, ◌++◌, Option, Some, None, map, refl, sym, ap, subst, ◌∙◌, eqb-true}
-use Rattle.std.proofs.lemmas.Bool.{and_from, and_parts, cases_Bool, cond-true, cond-false, le-leb, leb-true, or_cases}
+use Rattle.std.proofs.lemmas.Bool.{and_from, and_parts, cases_Bool, cond-false, le-leb, leb-true, or_cases}
 use Rattle.std.specs.List.{list_all, list_any}
-use Rattle.std.specs.Prelude.{find, is_some}
+use Rattle.std.specs.Prelude.{is_some}
 use Rattle.tp_base.proofs.Each.{each_in}
 use Rattle.tp_base.proofs.Members.{has_in}
 use Rattle.tp_base.proofs.Ranges.{in_range, range_in}
 use Rattle.tp_base.proofs.SameNames.{same_id_is}
+use Rattle.tp_base.proofs.Tests.{all_in, found_in, some_in}
 use Rattle.tp_base.specs.Limits.{is_from}
 use Rattle.tp_base.specs.Lists.{Ascends, Each, has, IsIn, IsPrefixOf}
 use Rattle.tp_base.specs.Names.{key_lt, same_id}
@@ -14,7 +15,6 @@ use Rattle.tp_base.specs.declared.names.CommandId.{CommandId}
 use Rattle.tp_base.specs.declared.names.Key.{Key}
 use Rattle.tp_base.specs.declared.names.Site.{Site}
 use Rattle.tp_facts.proofs.Commands.{accesses_within}
-use Rattle.tp_facts.proofs.Tables.{all_in, any_in}
 use Rattle.tp_ops.specs.declared.command.Command.{Command}
 use Rattle.tp_ops.specs.declared.operation.Answer.{Answer}
 use Rattle.tp_rules.proofs.lists.UpTo.{in_up_to}
@@ -77,7 +77,7 @@ is_committed older id = list_any (λ c. same_id c.id id) (commits older)
 
 committed_is : (older : List Entry) (id : CommandId) → is_committed older id ≡ true → IsCommitted older id
 committed_is older id test =
-    let found = any_in (λ (c : Commit). same_id c.id id) (commits older) test in
+    let found = some_in (λ (c : Commit). same_id c.id id) (commits older) test in
     (found.0, found.1, same_id_is found.0.id id found.2)
 
 abbrev pub begins_share : Script → List Entry → ℕ → ℕ → Bool
@@ -169,20 +169,6 @@ orders script older test p =
 
 -- a command that was answered is one of the script
 
-found_is : {X : Type 0} (test : X → Bool) (xs : List X) (x : X) → find test xs ≡ Some x → IsIn x xs × (test x ≡ true)
-found_is test [] x e = absurd cc
-found_is test (y ∷ ys) x e = elim (cases_Bool (test y)) [
-  | inl t ↦
-      let same : y ≡ x = some_is (sym (cond-true (test y) (Some y) (find test ys) t) ∙ e) in
-      (inl (sym same), subst (λ (z : _). test z ≡ true) same t)
-  | inr f ↦
-      let rest = found_is test ys x (sym (cond-false (test y) (Some y) (find test ys) f) ∙ e) in
-      (inr rest.0, rest.1)
-]
-  where
-    some_is : {X : Type 0} {a b : X} → ◌≡◌ {A = Option X} (Some a) (Some b) → a ≡ b
-    some_is e = cc
-
 answered_is : (script : Script) (parts : ℕ → Option (List Answer)) (o : Option Command) →
     is_some (reply_from script parts o) ≡ true → is_some o ≡ true
 answered_is script parts None is = cc
@@ -192,7 +178,7 @@ command_there : (script : Script) (id : CommandId) (o : Option Command) → comm
     (c : Command) × IsIn c script.commands × (c.id ≡ id)
 command_there script id None e is = absurd cc
 command_there script id (Some c) e is =
-    let found = found_is (λ (d : Command). same_id d.id id) script.commands c e in
+    let found = found_in (λ (d : Command). same_id d.id id) script.commands c e in
     (c, found.0, same_id_is c.id id found.1)
 
 answered_there : (script : Script) (older : List Entry) (id : CommandId) → is_some (reply_to script older id) ≡ true →
