@@ -39,7 +39,17 @@ def content(file):
 
 def run(program, words, data, environment=None, limit=None):
     """Runs the program with these words on these bytes. A limit is the number of bytes that it may map."""
-    files = [scratch(data), scratch(), scratch()]
+    given = scratch(data)
+    try:
+        return run_on(given, program, words, environment, limit)
+    finally:
+        os.close(given)
+
+
+def run_on(given, program, words, environment=None, limit=None, kept=True):
+    """Runs the program with these words on a file. What it writes is not read where it isn't to be kept."""
+    os.lseek(given, 0, os.SEEK_SET)
+    files = [given, scratch(), scratch()]
     child = os.fork()
     if child == 0:
         for target, file in enumerate(files):
@@ -53,8 +63,8 @@ def run(program, words, data, environment=None, limit=None):
         finally:
             os._exit(127)
     _, status, used = os.wait4(child, 0)
-    output, error = content(files[1]), content(files[2])
-    for file in files:
+    output, error = content(files[1]) if kept else b"", content(files[2])
+    for file in files[1:]:
         os.close(file)
     return Ran(os.waitstatus_to_exitcode(status), output, error, used.ru_utime + used.ru_stime, used.ru_maxrss)
 
