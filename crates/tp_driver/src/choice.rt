@@ -5,8 +5,8 @@ ghost use Rattle.tp_script.specs.Accepted.{IsAccepted};
 ghost use Rattle.tp_rules.specs.Runs.{IsRun};
 
 use tp_journal::Journal;
-use tp_netbook::Netbook;
-use tp_rules::{Inner, Item};
+use tp_netbook::{Netbook, OwnSteps};
+use tp_rules::Item;
 use tp_script::Script;
 
 /// The one of the steps that may come next which the next pick chooses.
@@ -14,7 +14,7 @@ pub fn choose(
     script: &Script,
     journal: &Journal,
     netbook: &Netbook,
-    next: &[Option<Inner>],
+    next: &OwnSteps,
 ) -> Option<Item>
     requires accepted { IsAccepted script.now }
     requires run { IsRun script.now journal.now }

@@ -14,7 +14,7 @@ use crate::choice::choose;
 use std::alloc::Global;
 use tp_base::NoMemory;
 use tp_journal::Journal;
-use tp_netbook::{Netbook, place_of};
+use tp_netbook::{Netbook, OwnSteps, place_of};
 use tp_rules::{Actor, Entry, Inner, Item, Outputs};
 use tp_script::Script;
 
@@ -34,7 +34,8 @@ pub fn drive<A: Actor>(
     ensures cast { OnOk result (AllStand A.identity_of A.is_spent A.stands script.now actors.new journal.new) }
 {
     let mut netbook = Netbook::new(alloc, script)?;
-    let mut next = next_steps(alloc, actors)?;
+    let steps = next_steps(alloc, actors)?;
+    let mut next = OwnSteps::new(alloc, steps)?;
     while turn(alloc, script, journal, &mut netbook, actors, &mut next)? {}
     Ok(())
 }
@@ -57,7 +58,7 @@ fn turn<A: Actor>(
     journal: &mut Journal,
     netbook: &mut Netbook,
     actors: &mut [A],
-    next: &mut [Option<Inner>],
+    next: &mut OwnSteps,
 ) -> Result<bool, NoMemory>
     requires accepted { IsAccepted script.now }
     requires driven { IsDriven script.now journal.old }
@@ -77,8 +78,7 @@ fn turn<A: Actor>(
     let outputs = act_after(alloc, script, journal, actors, item)?;
     let home = place_of(script, item.actor);
     prove!(home < actors.len());
-    prove!(home < next.len());
-    next[home] = actors[home].next_inner();
+    next.set(home, actors[home].next_inner());
     let entry = Entry {
         actor: item.actor,
         event: item.event,

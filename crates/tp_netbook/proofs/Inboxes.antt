@@ -14,26 +14,25 @@ use Rattle.tp_base.specs.declared.names.ActorName.{ActorName}
 use Rattle.tp_base.specs.declared.names.ActorName.TheVariants.{Process, Executor, Session}
 use Rattle.tp_netbook.proofs.Outputs.{delivered_more, one_more}
 use Rattle.tp_netbook.proofs.Rosters.{take_next}
-use Rattle.tp_netbook.proofs.RouteCounts.{counts_more, number_is}
 use Rattle.tp_netbook.proofs.Watches.{due_is, watch_more}
-use Rattle.tp_netbook.specs.Fates.{AreFates}
+use Rattle.tp_netbook.specs.Fates.{AreCountsFor, AreFates, TellsNext, fate_of as given_as}
+use Rattle.tp_netbook.specs.declared.fate.Fate.{Fate as FateValue}
 use Rattle.tp_netbook.specs.Inbox.{AreCountedBy, HasDone, IsInbox, IsOfGiven, IsWatchOf, MayBeDone, Takes, coming, elsewhere, fate_after, line_or_first, lives_yet, next_event, output_with, settled, waiting_among, waits}
 use Rattle.tp_netbook.specs.Netbook.{line_due}
 use Rattle.tp_netbook.specs.Outputs.{event_of, is_named, loses, new_output, passed}
-use Rattle.tp_netbook.specs.Routes.{AreCounts, HasCounted, route_of}
+use Rattle.tp_netbook.specs.Routes.{route_of}
 use Rattle.tp_netbook.specs.declared.inbox.Inbox.{Inbox}
 use Rattle.tp_netbook.specs.declared.inbox.Waiting.{Waiting}
 use Rattle.tp_netbook.specs.declared.output.Output.{Output}
 use Rattle.tp_netbook.specs.declared.watch.Watch.{Watch}
 use Rattle.tp_rules.proofs.lists.Tallies.{filter_none}
 use Rattle.tp_rules.specs.Journal.{is_delivery_of, is_live, is_loss_of}
-use Rattle.tp_rules.specs.Plan.{Fate, deliveries, due_of, fate_by, left_by, was_lost}
+use Rattle.tp_rules.specs.Plan.{Fate, deliveries, due_of, left_by, was_lost}
 use Rattle.tp_rules.specs.declared.event.Entry.{Entry}
 use Rattle.tp_rules.specs.declared.event.Event.{Event}
 use Rattle.tp_rules.specs.declared.event.Event.TheVariants.{Deliver, Dropped, Inner as OfItself}
 use Rattle.tp_rules.specs.declared.event.Inner.{Inner}
 use Rattle.tp_rules.specs.declared.event.Parcel.{Parcel}
-use Rattle.tp_script.specs.declared.script.PlanLine.{PlanLine}
 use Rattle.tp_script.specs.declared.script.Script.{Script}
 use Rattle.tp_wire.specs.declared.message.Message.{Message}
 
@@ -109,19 +108,18 @@ of_more before ps (Deliver entry place) given = (given.0, in_left before ps give
 of_more before ps (Dropped entry place) given = (given.0, in_left before ps given.0 given.1, given.2, given.3)
 of_more before ps (OfItself inner) given = tt
 
-pub takes_one : (p : Parcel) (old new : Inbox) (number : ℕ) (fate : Fate) → HasCounted old.routes new.routes (route_of p) number
-    → ((plan : List PlanLine) → AreFates plan old.fates → fate ≡ fate_by plan p.message.from p.message.to number)
-    → new.waiting.items ≡ old.waiting.items ++ waits (new_output p.entry p.place p.message.to fate) p.message
+pub takes_one : (p : Parcel) (old new : Inbox) (given : FateValue) → TellsNext old.fates old.routes new.routes (route_of p) given
+    → new.waiting.items ≡ old.waiting.items ++ waits (new_output p.entry p.place p.message.to (given_as given)) p.message
     → new.watch ≡ old.watch → new.fates ≡ old.fates → Takes (p ∷ []) old new
-takes_one p old new number fate counted by more watch fates = λ script actor before own is apart short.
-    let is_fate : fate ≡ fate_after script before p =
-    by script.plan is.fates ∙ ap (λ (n : ℕ). fate_by script.plan p.message.from p.message.to n) (number_is before p old.routes new.routes number is.routes counted short) in
+takes_one p old new given tells more watch fates = λ script actor before own is apart short.
+    let fate : Fate = given_as given in
+    let is_fate : fate ≡ fate_after script before p = tells.fate script.plan before p is.fates is.routes refl short in
     let output : new_output p.entry p.place p.message.to fate ≡ output_with (fate_after script before p) own p =
     ap (λ (f : Fate). new_output p.entry p.place p.message.to f) is_fate ∙ sym (fresh_left (fate_after script before p) own before p apart is.told) in
     record {
       watch = subst (IsWatchOf script own actor) (sym watch) is.watch;
       fates = subst (AreFates script.plan) (sym fates) is.fates;
-      routes = counts_more before p old.routes new.routes number is.routes counted short;
+      routes = subst (λ f. AreCountsFor f (before ++ p ∷ []) new.routes) (sym fates) (tells.counts before p is.routes refl short);
       waiting = more ∙ ap (λ (l : List Waiting). l ++ waits (new_output p.entry p.place p.message.to fate) p.message) is.waiting
           ∙ ap (λ (o : Output). waiting_among script own [] before ++ waits o p.message) output ∙ sym (among_more script own [] before p);
       apart = apart;
@@ -298,7 +296,7 @@ pub has_done : (event : Event) (old new : Inbox) → AreCountedBy event old.watc
 has_done event old new counted fates routes waiting = λ script actor parcels own e is by of may short. record {
   watch = watch_is script own e actor old.watch new.watch is.watch by (subst (λ (x : Event). AreCountedBy x old.watch new.watch) (sym of) counted) short;
   fates = subst (AreFates script.plan) (sym fates) is.fates;
-  routes = subst (AreCounts parcels) (sym routes) is.routes;
+  routes = subst (λ f. AreCountsFor f parcels new.routes) (sym fates) (subst (AreCountsFor old.fates parcels) (sym routes) is.routes);
   waiting = waiting ∙ ap (settled event) is.waiting ∙ ap (λ (x : Event). settled x (waiting_among script own [] parcels)) (sym of)
       ∙ sym (settled_is script own e [] parcels is.apart (first script actor parcels own e of may));
   apart = is.apart;

@@ -1,9 +1,9 @@
 -- What a ledger says of a journal, and what it says after one more entry. Used by its functions.
-use Rattle.std.proofs.Common.{◌≡◌, ◌≢◌, ℕ, zero, suc, ◌+◌, ◌-◌, ◌*◌, ◌<◌, ◌≤◌, ◌^◌, inl, inr, Bool, true, false, cond, List, [], ◌∷◌, ◌++◌, length, set, Option, Some, None, refl, sym, ap, subst, ◌∙◌, append_assoc, arith}
-use Rattle.std.proofs.lemmas.Bool.{and_left, and_parts, and_right, cases_Bool, cases_eq, cond-false, cond-true, eq-eqb, eqb-true, lt-ltb, ltb-true, ne_eqb}
+use Rattle.std.proofs.Common.{◌≡◌, ◌≢◌, ℕ, zero, suc, ◌+◌, ◌-◌, ◌<◌, ◌≤◌, ◌^◌, inl, inr, Bool, true, false, cond, List, [], ◌∷◌, ◌++◌, length, set, Option, Some, None, refl, sym, ap, subst, ◌∙◌, append_assoc, arith}
+use Rattle.std.proofs.lemmas.Bool.{and_left, and_parts, and_right, cases_eq, cond-false, cond-true, eq-eqb, eqb-true, lt-ltb, ltb-true, ne_eqb}
 use Rattle.std.proofs.lemmas.List.{append-nil, length-append, length-reverse, length-set}
 use Rattle.std.proofs.lemmas.Option.{slice_get_within}
-use Rattle.std.specs.Prelude.{◌==◌, ◌&&◌, ◌↔◌, not, nat_lt, IsTrue, option_map, reverse, slice_get}
+use Rattle.std.specs.Prelude.{◌==◌, ◌&&◌, ◌↔◌, not, IsTrue, option_map, reverse, slice_get}
 use Rattle.tp_base.proofs.Ends.{get_set_other, get_set_same, reverse_push}
 use Rattle.tp_base.proofs.Members.{in_either}
 use Rattle.tp_base.proofs.SameNames.{same_name_not, same_name_refl}
@@ -16,24 +16,24 @@ use Rattle.tp_base.specs.declared.names.Site.{Site}
 use Rattle.tp_netbook.proofs.NewOutputs.{IsEarlier, fate_is}
 use Rattle.tp_netbook.proofs.Outputs.{left_at_first, passed_is, sent_few}
 use Rattle.tp_netbook.proofs.Places.{get_sites, sites_get}
-use Rattle.tp_netbook.proofs.RouteCounts.{counts_more, number_is}
 use Rattle.tp_netbook.proofs.Watches.{due_is, watch_more, watch_same}
-use Rattle.tp_netbook.specs.Fates.{AreFates}
-use Rattle.tp_netbook.specs.Ledger.{AreSeen, AreSeenAt, IsLedger, KeepsPlan, Sends, due_line, first_left, is_alive, is_left, is_of, left_after, left_in, left_of, left_with, line_of, may_come, parcel_at, same_slot, taken, watch_of}
-use Rattle.tp_netbook.specs.Netbook.{AreWatches, IsCounted, IsWatch, line_due, lives, next_number}
+use Rattle.tp_netbook.specs.Fates.{AreCountsFor, AreFates, TellsNext, fate_of as given_as}
+use Rattle.tp_netbook.specs.declared.fate.Fate.{Fate as FateValue}
+use Rattle.tp_netbook.specs.Ledger.{AreSeen, AreSeenAt, IsLedger, KeepsPlan, Sends, due_line, first_left, is_alive, is_left, left_after, left_in, left_of, left_with, line_of, may_come, parcel_at, same_slot, taken, watch_of}
+use Rattle.tp_netbook.specs.Netbook.{AreWatches, IsCounted, IsWatch, lives}
 use Rattle.tp_netbook.specs.Outputs.{loses, output_of, passed}
 use Rattle.tp_netbook.specs.Places.{place_of_site}
-use Rattle.tp_netbook.specs.Routes.{AreCounts, HasCounted, route_of}
+use Rattle.tp_netbook.specs.Routes.{next_number, route_of}
 use Rattle.tp_netbook.specs.declared.deliveries.Left.{Left}
 use Rattle.tp_netbook.specs.declared.deliveries.Slot.{Slot}
 use Rattle.tp_netbook.specs.declared.ledger.Ledger.{Ledger}
 use Rattle.tp_netbook.specs.declared.output.Output.{Output}
 use Rattle.tp_netbook.specs.declared.watch.Watch.{Watch}
 use Rattle.tp_rules.proofs.Histories.{free_history}
-use Rattle.tp_rules.proofs.sent.Parcels.{length-numbered, output_sent, parcel, sent_within}
+use Rattle.tp_rules.proofs.sent.Parcels.{output_sent, parcel, sent_within}
 use Rattle.tp_rules.specs.Journal.{has_crashed, is_known, is_live, numbered, output_at, sent}
 use Rattle.tp_rules.specs.Pending.{sites_of}
-use Rattle.tp_rules.specs.Plan.{Fate, Lost, Times, deliveries_left, due_of, fate_by, fate_of, is_planned, left_by}
+use Rattle.tp_rules.specs.Plan.{Fate, Lost, Times, deliveries_left, due_of, fate_by, fate_of}
 use Rattle.tp_rules.specs.Runs.{FollowsFate, FollowsLine, FollowsPlan, IsFreeHistory, IsHistory, IsLost, IsRun}
 use Rattle.tp_rules.specs.declared.event.Entry.{Entry}
 use Rattle.tp_rules.specs.declared.event.Event.{Event}
@@ -397,10 +397,10 @@ module _ (script : Script) (journal : List Entry) (e : Entry) (b : Ledger) (is :
   fates_now : AreFates script.plan b2.fates
   fates_now = subst (AreFates script.plan) (sym (fates2 ∙ rest1.fates)) is.fates
 
-  routes_now : AreCounts (sent earlier) b2.routes
-  routes_now = subst (AreCounts (sent earlier)) (sym (routes2 ∙ routes1)) is.routes
+  routes_now : AreCountsFor b2.fates (sent earlier) b2.routes
+  routes_now = subst (λ f. AreCountsFor f (sent earlier) b2.routes) (sym (fates2 ∙ rest1.fates)) (subst (AreCountsFor b.fates (sent earlier)) (sym (routes2 ∙ routes1)) is.routes)
 
-  sent_now : ((sl : Slot) → left_in b3.deliveries sl ≡ left_with script.plan (sent earlier) news sl (left_in b2.deliveries sl)) × AreCounts (sent earlier ++ news) b3.routes
+  sent_now : ((sl : Slot) → left_in b3.deliveries sl ≡ left_with script.plan (sent earlier) news sl (left_in b2.deliveries sl)) × AreCountsFor b2.fates (sent earlier ++ news) b3.routes
   sent_now = subst (λ (ps : List Parcel). Sends ps b2 b3) numbers sends script.plan (sent earlier) fates_now routes_now few
 
   left_now : (sl : Slot) → left_in b3.deliveries sl ≡ option_map (λ m. left_of script (e ∷ earlier) (parcel_at sl m)) (output_at (e ∷ earlier) sl.entry sl.place)
@@ -416,7 +416,7 @@ module _ (script : Script) (journal : List Entry) (e : Entry) (b : Ledger) (is :
     topology = rest3.topology ∙ topology2 ∙ rest1.topology ∙ is.topology;
     sites = subst (λ l. AreWatches script l b3.sites.items) (sym turned) (subst (λ sites. AreWatches script (e ∷ earlier) sites.items) (sym rest3.sites) sites_now);
     fates = subst (AreFates script.plan) (sym rest3.fates) fates_now;
-    routes = subst (λ (l : List Entry). AreCounts (sent l) b3.routes) (sym turned) sent_now.1;
+    routes = subst (λ (l : List Entry). AreCountsFor b3.fates (sent l) b3.routes) (sym turned) (subst (λ f. AreCountsFor f (sent earlier ++ news) b3.routes) (sym rest3.fates) sent_now.1);
     left = λ sl. subst (λ (l : List Entry). left_in b3.deliveries sl ≡ option_map (λ m. left_of script l (parcel_at sl m)) (output_at l sl.entry sl.place)) (sym turned) (left_now sl);
     entries = rest3.entries ∙ entries2 ∙ more;
   }
@@ -435,28 +435,25 @@ left_with_next plan before (q ∷ qs) p sl left =
     ∙ ap (λ (l : List Parcel). left_with plan l (p ∷ []) sl (left_with plan (before ++ q ∷ []) qs sl first)) (append_assoc before (q ∷ []) qs)
 
 pub sends_none : (b : Ledger) → Sends [] b b
-sends_none b = λ plan before fates counts short. ((λ sl. refl), subst (λ (l : List Parcel). AreCounts l b.routes) (sym (append-nil before)) counts)
+sends_none b = λ plan before fates counts short. ((λ sl. refl), subst (λ (l : List Parcel). AreCountsFor b.fates l b.routes) (sym (append-nil before)) counts)
 
 pub sends_next : (ps : List Parcel) (p : Parcel) (a b c : Ledger) → Sends ps a b → KeepsPlan a b → Sends (p ∷ []) b c → Sends (ps ++ p ∷ []) a c
 sends_next ps p a b c sends keeps next = λ plan before fates counts short.
     let first = sends plan before fates counts (omega (arith, short, length-append ps (p ∷ []))) in
-    let second = next plan (before ++ ps) (subst (AreFates plan) (sym keeps.fates) fates) first.1
+    let second = next plan (before ++ ps) (subst (AreFates plan) (sym keeps.fates) fates) (subst (λ f. AreCountsFor f (before ++ ps) b.routes) (sym keeps.fates) first.1)
     (omega (arith, short, length-append ps (p ∷ []), length-append before ps)) in (
       (λ sl. second.0 sl ∙ ap (left_with plan (before ++ ps) (p ∷ []) sl) (first.0 sl) ∙ sym (left_with_next plan before ps p sl (left_in a.deliveries sl))),
-      subst (λ (l : List Parcel). AreCounts l c.routes) (append_assoc before ps (p ∷ [])) second.1,
+      subst (λ (l : List Parcel). AreCountsFor a.fates l c.routes) (append_assoc before ps (p ∷ [])) (subst (λ f. AreCountsFor f ((before ++ ps) ++ p ∷ []) c.routes) keeps.fates second.1),
     )
 
 -- one output
-pub sends_one : (p : Parcel) (old new : Ledger) (number : ℕ) (fate : Fate) → HasCounted old.routes new.routes (route_of p) number
-    → ((plan : List PlanLine) → AreFates plan old.fates → fate ≡ fate_by plan p.message.from p.message.to number)
-    → ((sl : Slot) → left_in new.deliveries sl ≡ cond (same_slot (slot p.entry p.place) sl) (Some (first_left fate)) (left_in old.deliveries sl))
+pub sends_one : (p : Parcel) (old new : Ledger) (given : FateValue) → TellsNext old.fates old.routes new.routes (route_of p) given
+    → ((sl : Slot) → left_in new.deliveries sl ≡ cond (same_slot (slot p.entry p.place) sl) (Some (first_left (given_as given))) (left_in old.deliveries sl))
     → Sends (p ∷ []) old new
-sends_one p old new number fate counted by added = λ plan before fates counts short.
-    let same : fate ≡ fate_by plan p.message.from p.message.to (next_number before p) =
-    by plan fates ∙ ap (λ (n : ℕ). fate_by plan p.message.from p.message.to n) (number_is before p old.routes new.routes number counts counted short) in (
-      (λ sl. added sl ∙ ap (λ (f : Fate). cond (same_slot (slot p.entry p.place) sl) (Some (first_left f)) (left_in old.deliveries sl)) same),
-      counts_more before p old.routes new.routes number counts counted short,
-    )
+sends_one p old new given tells added = λ plan before fates counts short. (
+  (λ sl. added sl ∙ ap (λ (f : Fate). cond (same_slot (slot p.entry p.place) sl) (Some (first_left f)) (left_in old.deliveries sl)) (tells.fate plan before p fates counts refl short)),
+  tells.counts before p counts refl short,
+)
 
 -- the watch of a process
 

@@ -4,6 +4,7 @@ pub mod Rosters
 pub mod SameRoutes
 pub mod FateTables
 pub mod RouteCounts
+pub mod NextFates
 pub mod Watches
 pub mod Outputs
 pub mod Starts
@@ -12,6 +13,8 @@ pub mod Counting
 pub mod Adding
 pub mod NewOutputs
 pub mod Turned
+pub mod Listings
+pub mod FreeSteps
 pub mod Steps
 pub mod Ledgers
 pub mod Inboxes

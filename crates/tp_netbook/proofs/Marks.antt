@@ -12,6 +12,10 @@ use Rattle.tp_netbook.specs.declared.netbook.Netbook.{Netbook}
 use Rattle.tp_netbook.specs.declared.output.Inbox.{Inbox}
 use Rattle.tp_netbook.specs.declared.output.Output.{Output}
 
+pub one_later : (o : Option ℕ) (i : ℕ) → option_map next o ≡ Some i → (j : ℕ) × (o ≡ Some j) × (suc j ≡ i)
+one_later None i e = absurd cc
+one_later (Some j) i e = (j, refl, cc)
+
 module _ {X Y : Type 0} (test : X → Bool) (make : X → Y) where
   abbrev kept : X → Option Y
   kept x = cond (test x) (Some (make x)) None
@@ -23,10 +27,6 @@ module _ {X Y : Type 0} (test : X → Bool) (make : X → Y) where
       by : (b : Bool) → test x ≡ b → ones (map test xs) ≡ length (filter_map kept xs) → ones (map test (x ∷ xs)) ≡ length (filter_map kept (x ∷ xs))
       by true e rest = rw e (omega (arith, rest))
       by false e rest = rw e (omega (arith, rest))
-
-  one_later : (o : Option ℕ) (i : ℕ) → option_map next o ≡ Some i → (j : ℕ) × (o ≡ Some j) × (suc j ≡ i)
-  one_later None i e = absurd cc
-  one_later (Some j) i e = (j, refl, cc)
 
   none_later : (o : Option ℕ) → option_map next o ≡ None → o ≡ None
   none_later None e = refl

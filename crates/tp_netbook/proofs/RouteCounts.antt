@@ -5,8 +5,7 @@ use Rattle.std.proofs.lemmas.List.{length-append}
 use Rattle.std.proofs.lemmas.List.Elements.{filter-append}
 use Rattle.std.specs.Prelude.{filter, unwrap_or}
 use Rattle.tp_netbook.proofs.SameRoutes.{same_route_is}
-use Rattle.tp_netbook.specs.Netbook.{next_number}
-use Rattle.tp_netbook.specs.Routes.{AreCounts, HasCounted, counted_in, route_of, same_route}
+use Rattle.tp_netbook.specs.Routes.{AreCounts, HasCounted, counted_in, next_number, route_of, same_route}
 use Rattle.tp_netbook.specs.declared.route.Route.{Route}
 use Rattle.tp_netbook.specs.declared.route.Routes.{Routes}
 use Rattle.tp_rules.proofs.lists.Tallies.{filter_length, filter_no, filter_yes}

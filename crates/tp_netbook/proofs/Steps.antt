@@ -5,22 +5,22 @@ use Rattle.std.proofs.lemmas.Option.{slice_get_within}
 use Rattle.std.proofs.lemmas.Slice.Zip.{length-zip}
 use Rattle.std.specs.List.{zip}
 use Rattle.std.specs.Prelude.{min, nat_lt, ◌&&◌, filter_map, reverse, slice_get}
-use Rattle.tp_base.proofs.Each.{each_in}
+use Rattle.tp_base.proofs.Each.{each_of, each_in}
 use Rattle.tp_base.proofs.Ends.{reverse_push, slice_get_left, slice_get_right}
 use Rattle.tp_base.proofs.Members.{get_in}
-use Rattle.tp_base.specs.Lists.{IsIn}
+use Rattle.tp_base.specs.Lists.{Each, IsIn}
 use Rattle.tp_base.specs.declared.names.ActorName.{ActorName}
 use Rattle.tp_netbook.proofs.Outputs.{olds_are, sent_few}
+use Rattle.tp_netbook.proofs.Listings.{lines_stay, turns_listed}
 use Rattle.tp_netbook.proofs.NewOutputs.{new_are}
 use Rattle.tp_netbook.proofs.Places.{few_actors, few_sites, place_get}
 use Rattle.tp_netbook.proofs.Starts.{placed}
 use Rattle.tp_netbook.proofs.Turned.{listed_settled, turned_marks}
-use Rattle.tp_netbook.proofs.Watches.{alive_is, lines_are, undue_is, watches_more}
+use Rattle.tp_netbook.proofs.Watches.{alive_is, free_site, lines_are, undue_is, watches_more}
 use Rattle.tp_netbook.specs.Netbook as book
-use Rattle.tp_netbook.specs.Fates.{AreFates}
-use Rattle.tp_netbook.specs.Netbook.{Adds, AreCounted, AreListed, AreNext, ArePlaced, AreReady, AreReadyBut, AreWatches, IsNetbook, KeepsMarks, KeepsRest, Turns, deliveries, delivery_item, due_items, is_alive, is_free, is_undue, line_item, lines, new_outputs, own_items}
+use Rattle.tp_netbook.specs.Fates.{AreCountsFor, AreFates}
+use Rattle.tp_netbook.specs.Netbook.{Adds, AreCounted, AreListed, AreNext, ArePlaced, AreReady, AreReadyBut, AreWatches, IsFreeRight, IsNetbook, KeepsMarks, KeepsRest, Turns, TurnsByPlan, are_free, deliveries, delivery_item, due_items, has_lines, is_alive, is_free, is_undue, line_item, lines, may_turn, new_outputs, own_items}
 use Rattle.tp_netbook.specs.Outputs.{loses, output_of, passed, starts_of}
-use Rattle.tp_netbook.specs.Routes.{AreCounts}
 use Rattle.tp_netbook.specs.declared.netbook.Netbook.{Netbook}
 use Rattle.tp_netbook.specs.declared.output.Output.{Output}
 use Rattle.tp_rules.proofs.Histories.{free_history}
@@ -115,6 +115,15 @@ module _ (script : Script) (journal : List Entry) (b : Netbook) (is : IsNetbook 
   known_of : (a : ActorName) → IsIn a (actors_of script) → is_known script a ≡ true
   known_of a h = let at = get_in (actors_of script) a h in (place_get script at.0 a at.1).1
 
+  pub many_roster : (next : List (Option Inner)) → AreNext script journal next → length next ≡ length b.roster.items
+  many_roster next are = ap length are ∙ length-map (actors_of script) makes ∙ ap length (sym is.roster)
+
+  -- all are free where the netbook says so
+  pub all_free : IsFreeRight b
+  all_free says =
+      subst (Each (λ a. is_free b a ≡ true)) (sym is.roster)
+      (each_of (λ a. is_free b a ≡ true) (actors_of script) (λ a h. free_site script (reverse journal) b is.topology is.sites (sym is.all_free ∙ says) a (known_of a h)))
+
   own_all : (next : List (Option Inner)) → AreNext script journal next → own_items b next ≡ filter_map (own_item script (reverse journal)) (actors_of script)
   own_all next are =
       ap (λ (l : List ActorName). filter_map (book.own_item b) (zip l next)) is.roster
@@ -202,11 +211,12 @@ module _ (script : Script) (journal : List Entry) (e : Entry) (b : Netbook) (is 
   -- the event settles an output (b1), the entry is counted (b2), outputs are marked anew (b3), the entry begins (b4) and its outputs are added (b5)
   module _ (b1 b2 b3 b4 b5 : Netbook) (turned : Option ℕ)
       (outputs1 : b1.outputs.items ≡ map (passed e.event) b.outputs.items) (ready1 : AreReady b1) (rest1 : KeepsRest b b1) (routes1 : b1.routes ≡ b.routes) (inboxes1 : b1.inboxes ≡ b.inboxes)
-      (counted : AreCounted e.actor e.event b1 b1.sites.items b2.sites.items) (turns : Turns turned b1 b2) (due2 : b1.due ≡ length (lines b1) → b2.due ≡ length (lines b2))
+      (counted : AreCounted e.actor e.event b1 b1.sites.items b2.sites.items) (turns : Turns turned b1 b2) (plan2 : TurnsByPlan e.actor e.event turned b1) (due2 : b1.due ≡ length (lines b1) → b2.due ≡ length (lines b2))
+      (free2 : b1.all_free ≡ are_free b1.sites.items → b2.all_free ≡ are_free b2.sites.items)
       (topology2 : b2.topology ≡ b1.topology) (outputs2 : b2.outputs ≡ b1.outputs) (starts2 : b2.starts ≡ b1.starts) (inboxes2 : b2.inboxes ≡ b1.inboxes) (marks2 : b2.ready ≡ b1.ready)
       (roster2 : b2.roster ≡ b1.roster) (fates2 : b2.fates ≡ b1.fates) (routes2 : b2.routes ≡ b1.routes)
       (ready3 : AreReadyBut b2 turned → AreReady b3) (rest3 : KeepsRest b2 b3) (outputs3 : b3.outputs ≡ b2.outputs) (routes3 : b3.routes ≡ b2.routes) (inboxes3 : b3.inboxes ≡ b2.inboxes)
-      (topology4 : b4.topology ≡ b3.topology) (sites4 : b4.sites ≡ b3.sites) (due4 : b4.due ≡ b3.due) (roster4 : b4.roster ≡ b3.roster) (fates4 : b4.fates ≡ b3.fates) (routes4 : b4.routes ≡ b3.routes)
+      (topology4 : b4.topology ≡ b3.topology) (sites4 : b4.sites ≡ b3.sites) (due4 : b4.due ≡ b3.due) (free4 : b4.all_free ≡ b3.all_free) (roster4 : b4.roster ≡ b3.roster) (fates4 : b4.fates ≡ b3.fates) (routes4 : b4.routes ≡ b3.routes)
       (outputs4 : b4.outputs ≡ b3.outputs) (inboxes4 : b4.inboxes ≡ b3.inboxes) (starts4 : b4.starts.items ≡ b3.starts.items ++ length b3.outputs.items ∷ []) (entries4 : b4.entries ≡ suc (length journal))
       (ready4 : AreReady b3 → AreReady b4)
       (adds : Adds (numbered b4.entries 1 e.outputs) b4 b5) (marks5 : KeepsMarks b4 b5) (rest5 : KeepsRest b4 b5) where
@@ -222,8 +232,10 @@ module _ (script : Script) (journal : List Entry) (e : Entry) (b : Netbook) (is 
     fates_now : AreFates script.plan b4.fates
     fates_now = subst (AreFates script.plan) (sym (fates4 ∙ rest3.fates ∙ fates2 ∙ rest1.fates)) is.fates
 
-    routes_now : AreCounts (sent older) b4.routes
-    routes_now = subst (AreCounts (sent older)) (sym (routes4 ∙ routes3 ∙ routes2 ∙ routes1)) is.routes
+    routes_now : AreCountsFor b4.fates (sent older) b4.routes
+    routes_now =
+        subst (λ f. AreCountsFor f (sent older) b4.routes) (sym (fates4 ∙ rest3.fates ∙ fates2 ∙ rest1.fates))
+        (subst (AreCountsFor b.fates (sent older)) (sym (routes4 ∙ routes3 ∙ routes2 ∙ routes1)) is.routes)
 
     few : length (sent older) + length news < 2 ^ 128
     few =
@@ -233,7 +245,7 @@ module _ (script : Script) (journal : List Entry) (e : Entry) (b : Netbook) (is 
     numbers : numbered b4.entries 1 e.outputs ≡ news
     numbers = ap (λ (n : ℕ). numbered n 1 e.outputs) (entries4 ∙ ap (λ (n : ℕ). suc n) (sym as_long))
 
-    added_now : (b5.outputs.items ≡ b4.outputs.items ++ new_outputs script.plan (sent older) news) × AreCounts (sent older ++ news) b5.routes
+    added_now : (b5.outputs.items ≡ b4.outputs.items ++ new_outputs script.plan (sent older) news) × AreCountsFor b4.fates (sent older ++ news) b5.routes
     added_now = subst (λ (ps : List Parcel). Adds ps b4 b5) numbers adds script.plan (sent older) fates_now routes_now few
 
     passed_now : b4.outputs.items ≡ map (passed e.event) b.outputs.items
@@ -256,15 +268,26 @@ module _ (script : Script) (journal : List Entry) (e : Entry) (b : Netbook) (is 
     ready_now =
         let same : length b1.inboxes.items ≡ length b1.sites.items =
         ap (λ l. length l.items) inboxes1 ∙ inboxes_many ∙ ap (λ l. length l.items) (sym rest1.sites) in
-        marks5.ready (ready4 (ready3 (turned_marks b1 b2 turned turns outputs2 inboxes2 marks2 same (listed_settled b b1 e.event outputs1 rest1.topology inboxes1 is.listed) ready1)))
+        let may : (home : ℕ) → turned ≡ Some home → may_turn b1 home ≡ true =
+        λ home at. turns_listed script older e b1 (rest1.topology ∙ is.topology) sites_then now.1.known whole.1.plan.line home (plan2 home at) in
+        let lines : (home : ℕ) → may_turn b1 home ≡ true → may_turn b home ≡ true = λ home. subst (λ sites. has_lines (slice_get sites.items home) ≡ true) rest1.sites in
+        marks5.ready (ready4 (ready3 (turned_marks b1 b2 turned turns outputs2 inboxes2 marks2 same may (listed_settled b b1 e.event outputs1 rest1.topology inboxes1 lines is.listed) ready1)))
 
     listed_now : AreListed b5
-    listed_now = marks5.listed (listed_settled b b4 e.event passed_now (topology4 ∙ rest3.topology ∙ topology2 ∙ rest1.topology) (inboxes4 ∙ inboxes3 ∙ inboxes2 ∙ inboxes1) is.listed)
+    listed_now =
+        marks5.listed (listed_settled b b4 e.event passed_now (topology4 ∙ rest3.topology ∙ topology2 ∙ rest1.topology) (inboxes4 ∙ inboxes3 ∙ inboxes2 ∙ inboxes1)
+        (λ home may. subst (λ sites. has_lines (slice_get sites.items home) ≡ true) rest1.sites
+        (lines_stay e.actor e.event b1 b1.sites.items b2.sites.items counted home (subst (λ sites. has_lines (slice_get sites.items home) ≡ true) (sites4 ∙ rest3.sites) may))) is.listed)
 
     due_now : b5.due ≡ length (lines b5)
     due_now =
         rest5.due ∙ due4 ∙ rest3.due ∙ due2 (rest1.due ∙ is.due ∙ ap (λ sites. length (due_items sites.items)) (sym rest1.sites))
         ∙ ap (λ sites. length (due_items sites.items)) (sym (rest5.sites ∙ sites4 ∙ rest3.sites))
+
+    free_now : b5.all_free ≡ are_free b5.sites.items
+    free_now =
+        rest5.all_free ∙ free4 ∙ rest3.all_free ∙ free2 (rest1.all_free ∙ is.all_free ∙ ap (λ sites. are_free sites.items) (sym rest1.sites))
+        ∙ ap (λ sites. are_free sites.items) (sym (rest5.sites ∙ sites4 ∙ rest3.sites))
 
     pub netbook_more : IsNetbook script (journal ++ e ∷ []) b5
     netbook_more = record {
@@ -272,7 +295,8 @@ module _ (script : Script) (journal : List Entry) (e : Entry) (b : Netbook) (is 
       sites = subst (λ l. AreWatches script l b5.sites.items) (sym turned_is) (subst (λ sites. AreWatches script (e ∷ older) sites.items) (sym (rest5.sites ∙ sites4 ∙ rest3.sites)) sites_now);
       roster = ap (λ roster. roster.items) (rest5.roster ∙ roster4 ∙ rest3.roster ∙ roster2 ∙ rest1.roster) ∙ is.roster;
       fates = subst (AreFates script.plan) (sym rest5.fates) fates_now;
-      routes = subst (λ (l : List Entry). AreCounts (sent l) b5.routes) (sym turned_is) added_now.1;
+      routes = subst (λ (l : List Entry). AreCountsFor b5.fates (sent l) b5.routes) (sym turned_is)
+          (subst (λ f. AreCountsFor f (sent older ++ news) b5.routes) (sym rest5.fates) added_now.1);
       outputs = added_now.0 ∙ ap (λ (l : List Output). l ++ new_outputs script.plan (sent older) news) olds
           ∙ ap (λ (l : List Output). map (output_of script (e ∷ older)) (sent older) ++ l) news_are
           ∙ sym (map-append (output_of script (e ∷ older)) (sent older) news)
@@ -282,6 +306,7 @@ module _ (script : Script) (journal : List Entry) (e : Entry) (b : Netbook) (is 
       listed = listed_now;
       ready = ready_now;
       due = due_now;
+      all_free = free_now;
       entries = rest5.entries ∙ entries4 ∙ more;
     }
       where

@@ -12,7 +12,7 @@ use Rattle.tp_base.specs.declared.names.ActorName.TheVariants.{Process, Executor
 use Rattle.tp_base.specs.declared.names.Site.{Site}
 use Rattle.tp_bits.specs.Bits.{AreBits}
 use Rattle.tp_netbook.proofs.Starts.{got_map}
-use Rattle.tp_netbook.specs.Netbook.{AreListed, AreReady, AreReadyBut, IsListed, Lists, Turns, differs, due_items, has_no_line, home_of, is_ready, line_due, line_item, lives, turned, watch_of}
+use Rattle.tp_netbook.specs.Netbook.{AreListed, AreReady, AreReadyBut, IsListed, Lists, Turns, are_free, differs, due_items, has_lines, has_no_line, home_of, is_free_there, is_ready, line_due, line_item, lives, may_turn, turned, watch_of}
 use Rattle.tp_netbook.specs.Outputs.{passed}
 use Rattle.tp_netbook.specs.Places.{place_of_site}
 use Rattle.tp_netbook.specs.declared.netbook.Netbook.{Netbook}
@@ -117,6 +117,24 @@ due_kept ws k w w' at still = same_many ws k at
         both (line_item w') (line_item v) (due_items vs) (due_items vs) (alike ∙ ap (λ (x : Watch). is_none (line_item x)) (sym same)) refl
     same_many (v ∷ vs) (suc k) at = both (line_item v) (line_item v) (due_items (set vs k w')) (due_items vs) refl (same_many vs k at)
 
+-- and all are free where they were
+
+pub free_kept : (ws : List Watch) (k : ℕ) (w w' : Watch) → slice_get ws k ≡ Some w → turned w w' ≡ false → are_free (set ws k w') ≡ are_free ws
+free_kept ws k w w' at still = same_free ws k at
+  where
+    alike : is_free_there w' ≡ is_free_there w
+    alike =
+        let parts = neither (differs w.live w'.live) (differs (is_none (line_due w)) (is_none (line_due w'))) still in
+        ap (λ (b : Bool). b && is_none (line_due w')) (not_differs w.live w'.live parts.0)
+        ∙ ap (λ (b : Bool). w.live && b) (not_differs (is_none (line_due w)) (is_none (line_due w')) parts.1)
+
+    same_free : (ws : List Watch) (k : ℕ) → slice_get ws k ≡ Some w → are_free (set ws k w') ≡ are_free ws
+    same_free [] k at = refl
+    same_free (v ∷ vs) zero at =
+        let same : v ≡ w = cc in
+        ap (λ (b : Bool). b && are_free vs) (alike ∙ ap is_free_there (sym same))
+    same_free (v ∷ vs) (suc k) at = ap (λ (b : Bool). is_free_there v && b) (same_free vs k at)
+
 pub nobody_turned : (old : Netbook) → Turns None old old
 nobody_turned old a = inl refl
 
@@ -128,8 +146,8 @@ some_at (x ∷ xs) zero lt = (x, refl)
 some_at (x ∷ xs) (suc i) lt = some_at xs i (omega arith)
 
 pub turned_marks : (b b' : Netbook) (home : Option ℕ) → Turns home b b' → b'.outputs ≡ b.outputs → b'.inboxes ≡ b.inboxes → b'.ready ≡ b.ready
-    → length b.inboxes.items ≡ length b.sites.items → AreListed b → AreReady b → AreReadyBut b' home
-turned_marks b b' home turns outputs inboxes ready many listed are = (
+    → length b.inboxes.items ≡ length b.sites.items → ((k : ℕ) → home ≡ Some k → may_turn b k ≡ true) → AreListed b → AreReady b → AreReadyBut b' home
+turned_marks b b' home turns outputs inboxes ready many may listed are = (
   map (is_ready b) b.outputs.items,
   subst (λ r. AreBits (map (is_ready b) b.outputs.items) r) (sym ready) are,
   length-map b.outputs.items (is_ready b) ∙ ap (λ os. length os.items) (sym outputs),
@@ -142,23 +160,26 @@ turned_marks b b' home turns outputs inboxes ready many listed are = (
           inl (slice_get-map (is_ready b) b.outputs.items i ∙ ap (option_map (is_ready b)) at ∙ ap (λ (c : Bool). Some (c && nat_lt 0 o.left)) (sym same))
       | inr there ↦
           let found = some_at b.inboxes.items there.0 (omega (arith, there.3, many)) in
-          inr (there.0, found.0, there.1, ap (λ l. slice_get l.items there.0) inboxes ∙ found.1, listed i o there.0 found.0 at there.2 found.1)
+          inr (there.0, found.0, there.1, ap (λ l. slice_get l.items there.0) inboxes ∙ found.1, listed i o there.0 found.0 at there.2 (may there.0 there.1) found.1)
     ]
 
-pub listed_settled : (b b' : Netbook) (event : Event) → b'.outputs.items ≡ map (passed event) b.outputs.items → b'.topology ≡ b.topology → b'.inboxes ≡ b.inboxes → AreListed b → AreListed b'
-listed_settled b b' event outputs topology inboxes listed i o home inbox at is there =
+pub listed_settled : (b b' : Netbook) (event : Event) → b'.outputs.items ≡ map (passed event) b.outputs.items → b'.topology ≡ b.topology → b'.inboxes ≡ b.inboxes
+    → ((home : ℕ) → may_turn b' home ≡ true → may_turn b home ≡ true) → AreListed b → AreListed b'
+listed_settled b b' event outputs topology inboxes lines listed i o home inbox at is may there =
     let found = got_map (passed event) b.outputs.items i o (ap (λ (l : List Output). slice_get l i) (sym outputs) ∙ at) in
     let to : home_of b.topology found.0.to ≡ Some home = ap (λ (q : Output). home_of b.topology q.to) found.2 ∙ ap (λ shape. home_of shape o.to) (sym topology) ∙ is in
-    listed i found.0 home inbox found.1 to (ap (λ l. slice_get l.items home) (sym inboxes) ∙ there)
+    listed i found.0 home inbox found.1 to (lines home may) (ap (λ l. slice_get l.items home) (sym inboxes) ∙ there)
 
-pub listed_more : (b b' : Netbook) (o : Output) (home : Option ℕ) → b'.outputs.items ≡ b.outputs.items ++ o ∷ [] → b'.topology ≡ b.topology → home ≡ home_of b.topology o.to
+pub listed_more : (b b' : Netbook) (o : Output) (home : Option ℕ) → b'.outputs.items ≡ b.outputs.items ++ o ∷ [] → b'.topology ≡ b.topology → b'.sites ≡ b.sites
+    → ((k : ℕ) → home_of b.topology o.to ≡ Some k → may_turn b k ≡ true → home ≡ Some k)
     → Lists home (length b.outputs.items) b.inboxes.items b'.inboxes.items → AreListed b → AreListed b'
-listed_more b b' o home outputs topology is lists listed i o' place inbox at to there =
+listed_more b b' o home outputs topology sites is lists listed i o' place inbox at to may there =
     let before = lists.1 place inbox there in
     let to' : home_of b.topology o'.to ≡ Some place = ap (λ shape. home_of shape o'.to) (sym topology) ∙ to in
+    let may' : may_turn b place ≡ true = ap (λ ws. has_lines (slice_get ws.items place)) (sym sites) ∙ may in
     elim (slice_get_push_cases b.outputs.items o i o' (ap (λ (l : List Output). slice_get l i) (sym outputs) ∙ at)) [
-      | inl old ↦ before.2 i (inl (listed i o' place before.0 old.1 to' before.1))
-      | inr new ↦ before.2 i (inr (new.0, is ∙ ap (λ (q : Output). home_of b.topology q.to) (sym new.1) ∙ to'))
+      | inl old ↦ before.2 i (inl (listed i o' place before.0 old.1 to' may' before.1))
+      | inr new ↦ before.2 i (inr (new.0, is place (ap (λ (q : Output). home_of b.topology q.to) (sym new.1) ∙ to') may'))
     ]
 
 -- an output's place is put into an inbox
@@ -188,6 +209,6 @@ lists_there place home inboxes before after at more = (length-set inboxes home a
         within i (inr new) = in_right before.places.items (place ∷ []) i (inl new.0)
 
 pub none_listed : (b : Netbook) → b.outputs.items ≡ [] → AreListed b
-none_listed b none i o home inbox at is there =
+none_listed b none i o home inbox at is may there =
     let empty : None ≡ Some o = ap (λ (l : List Output). slice_get l i) (sym none) ∙ at in
     absurd cc

@@ -1,6 +1,6 @@
 -- What the watches of a netbook say of the sites' processes, before and after an entry.
 use Rattle.std.proofs.Common.{◌≡◌, ℕ, zero, suc, ◌+◌, ◌-◌, ◌<◌, ◌≤◌, ◌^◌, inl, inr, Bool, true, false, cond, List, [], ◌∷◌, ◌++◌, length, map, take, Option, Some, None, refl, sym, ap, subst, ◌∙◌, arith}
-use Rattle.std.proofs.lemmas.Bool.{cases_Bool, cases_eq, cases_lt, cond-false, cond-true}
+use Rattle.std.proofs.lemmas.Bool.{and_parts, cases_Bool, cases_eq, cases_lt, cond-false, cond-true}
 use Rattle.std.proofs.lemmas.List.{length-append, take_all}
 use Rattle.std.proofs.lemmas.Option.{slice_get-map, slice_get_within}
 use Rattle.tp_base.proofs.Ends.{slice_get_left, slice_get_right}
@@ -12,7 +12,7 @@ use Rattle.tp_base.specs.declared.names.ActorName.TheVariants.{Process, Executor
 use Rattle.tp_base.specs.declared.names.Site.{Site}
 use Rattle.tp_netbook.proofs.Places.{get_sites, sites_get}
 use Rattle.tp_netbook.proofs.Rosters.{take_next}
-use Rattle.tp_netbook.specs.Netbook.{AreCounted, AreWatches, IsCounted, IsCountedAt, IsWatch, has_no_line, is_alive, is_undue, if_now, line_due, line_item, lives, planned_of, watch_of}
+use Rattle.tp_netbook.specs.Netbook.{AreCounted, AreWatches, IsCounted, IsCountedAt, IsWatch, are_free, has_no_line, is_alive, is_free, is_free_there, is_undue, if_now, line_due, line_item, lives, planned_of, watch_of}
 use Rattle.tp_netbook.specs.Places.{place_of_site}
 use Rattle.tp_netbook.specs.declared.line.Line.{Line}
 use Rattle.tp_netbook.specs.declared.netbook.Netbook.{Netbook}
@@ -68,9 +68,16 @@ kept_alike f g (x ∷ xs) (y ∷ ys) many each =
 pub lines_are : (script : Script) (older : List Entry) (ws : List Watch) → AreWatches script older ws → filter_map line_item ws ≡ filter_map (due_item script older) (sites_of script)
 lines_are script older ws are = kept_alike line_item (due_item script older) ws (sites_of script) are.many (λ k w s p q. line_is script older w s (are.each k w s p q))
 
+all_free : (ws : List Watch) → are_free ws ≡ true → (k : ℕ) (w : Watch) → slice_get ws k ≡ Some w → is_free_there w ≡ true
+all_free [] free k w at = absurd cc
+all_free (v ∷ vs) free zero w at =
+    let same : v ≡ w = cc in
+    ap is_free_there (sym same) ∙ (and_parts (is_free_there v) (are_free vs) free).0
+all_free (v ∷ vs) free (suc k) w at = all_free vs (and_parts (is_free_there v) (are_free vs) free).1 k w at
+
 module _ (script : Script) (older : List Entry) (book : Netbook) (topology : book.topology ≡ script.topology) (are : AreWatches script older book.sites.items) where
   -- the watch of a site of the shape
-  watch_is : (s : Site) → is_site_of script.topology s ≡ true → (w : Watch) × (watch_of book s ≡ Some w) × IsWatch script older w s
+  pub watch_is : (s : Site) → is_site_of script.topology s ≡ true → (w : Watch) × (watch_of book s ≡ Some w) × IsWatch script older w s
   watch_is s known = of (slice_get book.sites.items (place_of_site script.topology s)) refl
     where
       there : slice_get (sites_of script) (place_of_site script.topology s) ≡ Some s
@@ -97,6 +104,17 @@ module _ (script : Script) (older : List Entry) (book : Netbook) (topology : boo
   undue_is (Process s) known = let found = watch_is s known in ap has_no_line found.1 ∙ ap is_none (due_is script older found.0 s found.2)
   undue_is (Executor s) known = refl
   undue_is (Session s) known = refl
+
+  -- an actor of the script, where every site lives and no line is due
+  pub free_site : are_free book.sites.items ≡ true → (a : ActorName) → is_known script a ≡ true → is_free book a ≡ true
+  free_site free (Process s) known =
+      let found = watch_is s known in
+      ap (λ (o : Option Watch). lives o && has_no_line o) found.1 ∙ all_free book.sites.items free (place_of_site book.topology s) found.0 found.1
+  free_site free (Executor s) known =
+      let found = watch_is s known in
+      let both = and_parts found.0.live (is_none (line_due found.0)) (all_free book.sites.items free (place_of_site book.topology s) found.0 found.1) in
+      ap (λ (o : Option Watch). lives o && true) found.1 ∙ ap (λ (b : Bool). b && true) both.0
+  free_site free (Session s) known = refl
 
 -- before the first entry
 

@@ -1,14 +1,17 @@
 -- The fates that a plan gives to outputs, as a netbook keeps them.
 use Rattle.std.specs.List.{list_any}
-use Rattle.std.specs.Prelude.{ℕ, ◌≡◌, ◌==◌, ◌&&◌, Bool, cond, true, false, List, [], ◌∷◌, Option, Some, None, filter_map, option_map}
+use Rattle.std.specs.Prelude.{ℕ, ◌≡◌, ◌⊎◌, ◌+◌, ◌<◌, ◌^◌, ◌==◌, ◌&&◌, Bool, cond, true, false, List, [], ◌∷◌, ◌++◌, Option, Some, None, filter_map, length, option_map}
 use Rattle.indexmap.specs.IndexMap.{get}
 use Rattle.tp_base.specs.declared.names.ActorName.{ActorName}
 use Rattle.tp_netbook.specs.declared.fate.Fate.{Fate as FateValue}
 use Rattle.tp_netbook.specs.declared.fate.Fate.TheVariants.{Lost as IsLost, Times as IsTimes}
 use Rattle.tp_netbook.specs.declared.fate.Fates.{Fates}
 use Rattle.tp_netbook.specs.declared.fate.Passage.{Passage}
-use Rattle.tp_netbook.specs.Routes.{same_route}
-use Rattle.tp_rules.specs.Plan.{Fate, Lost, Times, first_or, is_lost_by, repeated_by, times_for_all}
+use Rattle.tp_netbook.specs.Routes.{AreCounts, next_number, route_of, same_route}
+use Rattle.tp_netbook.specs.declared.route.Route.{Route}
+use Rattle.tp_netbook.specs.declared.route.Routes.{Routes}
+use Rattle.tp_rules.specs.Plan.{Fate, Lost, Times, fate_by, first_or, is_lost_by, repeated_by, times_for_all}
+use Rattle.tp_rules.specs.declared.event.Parcel.{Parcel}
 use Rattle.tp_script.specs.declared.script.PlanLine.{PlanLine}
 
 abbrev pub fate_of : FateValue → Fate
@@ -48,3 +51,18 @@ is_lost _ = false
 abbrev pub repeated : ℕ → Option FateValue → Option FateValue
 repeated times (Some IsLost) = Some IsLost
 repeated times _ = Some (IsTimes times)
+
+-- no output has a fate of its own
+abbrev pub NamesNone : Fates → Type 0
+NamesNone fates = (passage : Passage) → named_in fates passage ≡ None
+
+-- these are the counts of some outputs, but where no fate asks for them
+abbrev pub AreCountsFor : Fates → List Parcel → Routes → Type 0
+AreCountsFor fates parcels routes = NamesNone fates ⊎ AreCounts parcels routes
+
+-- one more output has the fate of its number, after those that were counted before
+pub record TellsNext (fates : Fates) (old new : Routes) (route : Route) (given : FateValue) : Type 0 where
+  pub fate : (plan : List PlanLine) (before : List Parcel) (p : Parcel) → AreFates plan fates → AreCountsFor fates before old → route_of p ≡ route → length before + 1 < 2 ^ 128
+      → fate_of given ≡ fate_by plan p.message.from p.message.to (next_number before p)
+  pub counts : (before : List Parcel) (p : Parcel) → AreCountsFor fates before old → route_of p ≡ route → length before + 1 < 2 ^ 128
+      → AreCountsFor fates (before ++ p ∷ []) new

@@ -4,10 +4,10 @@ use Rattle.tp_base.specs.Lists.{Ascends, Each, IsIn}
 use Rattle.tp_base.specs.Names.{same_name}
 use Rattle.tp_base.specs.declared.names.ActorName.{ActorName}
 use Rattle.tp_base.specs.declared.names.ActorName.TheVariants.{Process, Executor, Session}
-use Rattle.tp_netbook.specs.Fates.{AreFates}
-use Rattle.tp_netbook.specs.Netbook.{IsCounted, IsWatch, line_due, next_number}
+use Rattle.tp_netbook.specs.Fates.{AreCountsFor, AreFates}
+use Rattle.tp_netbook.specs.Netbook.{IsCounted, IsWatch, line_due}
 use Rattle.tp_netbook.specs.Outputs.{event_of, loses, passed}
-use Rattle.tp_netbook.specs.Routes.{AreCounts}
+use Rattle.tp_netbook.specs.Routes.{next_number}
 use Rattle.tp_netbook.specs.declared.inbox.Inbox.{Inbox}
 use Rattle.tp_netbook.specs.declared.inbox.Waiting.{Waiting}
 use Rattle.tp_netbook.specs.declared.output.Output.{Output}
@@ -95,7 +95,7 @@ IsWatchOf script own (Session s) None = Unit {0}
 pub record IsInbox (script : Script) (actor : ActorName) (parcels : List Parcel) (own : List Entry) (inbox : Inbox) : Type 0 where
   pub watch : IsWatchOf script own actor inbox.watch
   pub fates : AreFates script.plan inbox.fates
-  pub routes : AreCounts parcels inbox.routes
+  pub routes : AreCountsFor inbox.fates parcels inbox.routes
   pub waiting : inbox.waiting.items ≡ waiting_among script own [] parcels
   pub apart : Ascends elsewhere parcels
   pub told : Each (λ e. IsOfGiven parcels e.event) own

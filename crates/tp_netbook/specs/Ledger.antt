@@ -4,11 +4,11 @@ use Rattle.indexmap.specs.IndexMap.{get}
 use Rattle.tp_base.specs.declared.names.ActorName.{ActorName}
 use Rattle.tp_base.specs.declared.names.ActorName.TheVariants.{Process, Executor, Session}
 use Rattle.tp_base.specs.declared.names.Site.{Site}
-use Rattle.tp_netbook.specs.Fates.{AreFates}
-use Rattle.tp_netbook.specs.Netbook.{AreWatches, IsCounted, line_due, lives, next_number}
+use Rattle.tp_netbook.specs.Fates.{AreCountsFor, AreFates}
+use Rattle.tp_netbook.specs.Netbook.{AreWatches, IsCounted, line_due, lives}
 use Rattle.tp_netbook.specs.Outputs.{loses}
 use Rattle.tp_netbook.specs.Places.{place_of_site}
-use Rattle.tp_netbook.specs.Routes.{AreCounts}
+use Rattle.tp_netbook.specs.Routes.{next_number}
 use Rattle.tp_netbook.specs.declared.deliveries.Deliveries.{Deliveries}
 use Rattle.tp_netbook.specs.declared.deliveries.Left.{Left}
 use Rattle.tp_netbook.specs.declared.deliveries.Slot.{Slot}
@@ -60,7 +60,7 @@ pub record IsLedger (script : Script) (journal : List Entry) (ledger : Ledger) :
   pub topology : ledger.topology ≡ script.topology
   pub sites : AreWatches script (reverse journal) ledger.sites.items
   pub fates : AreFates script.plan ledger.fates
-  pub routes : AreCounts (sent (reverse journal)) ledger.routes
+  pub routes : AreCountsFor ledger.fates (sent (reverse journal)) ledger.routes
   pub left : (slot : Slot) → left_in ledger.deliveries slot
       ≡ option_map (λ m. left_of script (reverse journal) (parcel_at slot m)) (output_at (reverse journal) slot.entry slot.place)
   pub entries : ledger.entries ≡ length journal
@@ -114,8 +114,8 @@ pub record KeepsPlan (old new : Ledger) : Type 0 where
 
 -- outputs are counted and added
 abbrev pub Sends : List Parcel → Ledger → Ledger → Type 0
-Sends ps old new = (plan : List PlanLine) (before : List Parcel) → AreFates plan old.fates → AreCounts before old.routes → length before + length ps < 2 ^ 128
-    → ((slot : Slot) → left_in new.deliveries slot ≡ left_with plan before ps slot (left_in old.deliveries slot)) × AreCounts (before ++ ps) new.routes
+Sends ps old new = (plan : List PlanLine) (before : List Parcel) → AreFates plan old.fates → AreCountsFor old.fates before old.routes → length before + length ps < 2 ^ 128
+    → ((slot : Slot) → left_in new.deliveries slot ≡ left_with plan before ps slot (left_in old.deliveries slot)) × AreCountsFor old.fates (before ++ ps) new.routes
 
 -- the watches before and after an event at one place
 pub record AreSeenAt (place : ℕ) (event : Event) (before after : List Watch) : Type 0 where

@@ -1,15 +1,15 @@
 -- What a netbook keeps of a journal, and which steps it says may come next.
 use Rattle.std.specs.Prelude.{ℕ, ◌≡◌, ◌≢◌, ◌⊎◌, ◌+◌, ◌^◌, ◌<◌, ◌&&◌, ◌||◌, not, nat_le, nat_lt, is_none, Bool, true, false, cond, List, [], ◌∷◌, ◌++◌, Option, Some, None, filter, filter_map, length, map, reverse, set, slice_get}
-use Rattle.std.specs.List.{zip}
+use Rattle.std.specs.List.{list_all, zip}
 use Rattle.tp_base.specs.declared.names.ActorName.{ActorName}
 use Rattle.tp_base.specs.declared.names.ActorName.TheVariants.{Process, Executor, Session}
 use Rattle.tp_base.specs.declared.names.Site.{Site}
-use Rattle.tp_base.specs.Lists.{IsIn}
+use Rattle.tp_base.specs.Lists.{Each, IsIn}
 use Rattle.tp_bits.specs.Bits.{AreBits}
-use Rattle.tp_netbook.specs.Fates.{AreFates}
+use Rattle.tp_netbook.specs.Fates.{AreCountsFor, AreFates}
 use Rattle.tp_netbook.specs.Outputs.{StandsAfter, event_of, new_output, output_of, starts_of}
 use Rattle.tp_netbook.specs.Places.{place_of_site}
-use Rattle.tp_netbook.specs.Routes.{AreCounts, route_of, same_route}
+use Rattle.tp_netbook.specs.Routes.{next_number}
 use Rattle.tp_netbook.specs.declared.line.Line.{Line}
 use Rattle.tp_netbook.specs.declared.netbook.Netbook.{Netbook}
 use Rattle.tp_netbook.specs.declared.output.Inbox.{Inbox}
@@ -87,6 +87,13 @@ is_undue book (Session s) = true
 abbrev pub is_free : Netbook → ActorName → Bool
 is_free book a = is_alive book a && is_undue book a
 
+-- a site that lives and has no line due, and whether all are so
+abbrev pub is_free_there : Watch → Bool
+is_free_there w = w.live && is_none (line_due w)
+
+abbrev pub are_free : List Watch → Bool
+are_free watches = list_all is_free_there watches
+
 abbrev pub due_items : List Watch → List Item
 due_items watches = filter_map line_item watches
 
@@ -114,6 +121,14 @@ own_items book next = filter_map (own_item book) (zip book.roster.items next)
 
 -- what a netbook keeps
 
+-- each of its actors is free
+abbrev pub AreAllFree : Netbook → Type 0
+AreAllFree book = Each (λ a. is_free book a ≡ true) book.roster.items
+
+-- its actors are free where it says that all are
+abbrev pub IsFreeRight : Netbook → Type 0
+IsFreeRight book = book.all_free ≡ true → AreAllFree book
+
 -- it has marked the outputs that may be delivered or lost now
 abbrev pub AreReady : Netbook → Type 0
 AreReady book = AreBits (map (is_ready book) book.outputs.items) book.ready
@@ -124,10 +139,18 @@ home_of shape (Process s) = Some (place_of_site shape s)
 home_of shape (Executor s) = Some (place_of_site shape s)
 home_of shape (Session s) = None
 
--- each output to a site is in the site's inbox, if there is one
+-- the plan has a line for the site at a place
+abbrev pub has_lines : Option Watch → Bool
+has_lines None = false
+has_lines (Some w) = nat_lt 0 (length w.lines.items)
+
+abbrev pub may_turn : Netbook → ℕ → Bool
+may_turn book home = has_lines (slice_get book.sites.items home)
+
+-- each output to a site that has a line in the plan is in the site's inbox, if there is one
 abbrev pub AreListed : Netbook → Type 0
 AreListed book = (i : ℕ) (o : Output) (home : ℕ) (inbox : Inbox) → slice_get book.outputs.items i ≡ Some o → home_of book.topology o.to ≡ Some home
-    → slice_get book.inboxes.items home ≡ Some inbox → IsIn i inbox.places.items
+    → may_turn book home ≡ true → slice_get book.inboxes.items home ≡ Some inbox → IsIn i inbox.places.items
 
 -- each output is found by its entry and its place there
 abbrev pub ArePlaced : Netbook → Type 0
@@ -139,13 +162,14 @@ pub record IsNetbook (script : Script) (journal : List Entry) (book : Netbook) :
   pub sites : AreWatches script (reverse journal) book.sites.items
   pub roster : book.roster.items ≡ actors_of script
   pub fates : AreFates script.plan book.fates
-  pub routes : AreCounts (sent (reverse journal)) book.routes
+  pub routes : AreCountsFor book.fates (sent (reverse journal)) book.routes
   pub outputs : book.outputs.items ≡ map (output_of script (reverse journal)) (sent (reverse journal))
   pub starts : book.starts.items ≡ starts_of (reverse journal)
   pub inboxes : length book.inboxes.items ≡ length (sites_of script)
   pub listed : AreListed book
   pub ready : AreReady book
   pub due : book.due ≡ length (lines book)
+  pub all_free : book.all_free ≡ are_free book.sites.items
   pub entries : book.entries ≡ length journal
 
 -- how an entry changes it
@@ -182,6 +206,13 @@ abbrev pub Turns : Option ℕ → Netbook → Netbook → Type 0
 Turns turned old new = (a : ActorName) → (is_free new a ≡ is_free old a)
     ⊎ ((home : ℕ) × (turned ≡ Some home) × (home_of old.topology a ≡ Some home) × (home < length old.sites.items))
 
+-- a site turns only where the plan has a line for it, or where it crashes
+abbrev pub IsCrashAt : ActorName → Event → Netbook → ℕ → Type 0
+IsCrashAt actor event book home = (s : Site) × (actor ≡ Process s) × (home ≡ place_of_site book.topology s) × (is_crash event ≡ true)
+
+abbrev pub TurnsByPlan : ActorName → Event → Option ℕ → Netbook → Type 0
+TurnsByPlan actor event turned book = (home : ℕ) → turned ≡ Some home → (may_turn book home ≡ true) ⊎ IsCrashAt actor event book home
+
 -- an output is in the inbox of the site that turned
 abbrev pub IsListed : Netbook → Option ℕ → ℕ → Type 0
 IsListed book turned i = (home : ℕ) × (inbox : Inbox) × (turned ≡ Some home) × (slice_get book.inboxes.items home ≡ Some inbox) × IsIn i inbox.places.items
@@ -212,6 +243,7 @@ pub record KeepsRest (old new : Netbook) : Type 0 where
   pub fates : new.fates ≡ old.fates
   pub starts : new.starts ≡ old.starts
   pub due : new.due ≡ old.due
+  pub all_free : new.all_free ≡ old.all_free
   pub entries : new.entries ≡ old.entries
 
 -- the marks and the inboxes stay right
@@ -219,10 +251,6 @@ pub record KeepsMarks (old new : Netbook) : Type 0 where
   pub ready : AreReady old → AreReady new
   pub listed : AreListed old → AreListed new
   pub inboxes : length new.inboxes.items ≡ length old.inboxes.items
-
--- the number of an output between its two actors, after those sent before
-abbrev pub next_number : List Parcel → Parcel → ℕ
-next_number before p = length (filter (λ q. same_route (route_of q) (route_of p)) before) + 1
 
 -- an output as it is added, with the fate that its number has
 abbrev pub added : List PlanLine → List Parcel → Parcel → Output
@@ -235,5 +263,5 @@ new_outputs plan before (p ∷ ps) = added plan before p ∷ new_outputs plan (b
 
 -- outputs are counted and added
 abbrev pub Adds : List Parcel → Netbook → Netbook → Type 0
-Adds ps old new = (plan : List PlanLine) (before : List Parcel) → AreFates plan old.fates → AreCounts before old.routes → length before + length ps < 2 ^ 128
-    → (new.outputs.items ≡ old.outputs.items ++ new_outputs plan before ps) × AreCounts (before ++ ps) new.routes
+Adds ps old new = (plan : List PlanLine) (before : List Parcel) → AreFates plan old.fates → AreCountsFor old.fates before old.routes → length before + length ps < 2 ^ 128
+    → (new.outputs.items ≡ old.outputs.items ++ new_outputs plan before ps) × AreCountsFor old.fates (before ++ ps) new.routes

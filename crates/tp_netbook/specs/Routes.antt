@@ -24,3 +24,7 @@ AreCounts parcels routes = (route : Route) → counted_in routes route ≡ lengt
 pub record HasCounted (old new : Routes) (route : Route) (given : ℕ) : Type 0 where
   pub number : counted_in old route + 1 < 2 ^ 128 → given ≡ counted_in old route + 1
   pub counts : (other : Route) → counted_in new other ≡ cond (same_route route other) given (counted_in old other)
+
+-- the number of an output between its two actors, after those sent before
+abbrev pub next_number : List Parcel → Parcel → ℕ
+next_number before p = length (filter (λ q. same_route (route_of q) (route_of p)) before) + 1

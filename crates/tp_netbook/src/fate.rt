@@ -1,10 +1,10 @@
 ghost use Rattle.std.specs.Prelude.{◌≡◌, ◌∷◌, List, Some, IfOk, OnOk};
-ghost use Rattle.tp_netbook.specs.Fates.{AreFates, Names, fate_of, is_lost, named_in, repeated};
+ghost use Rattle.tp_netbook.specs.Fates.{AreFates, Names, TellsNext, fate_of, is_lost, named_in, repeated};
 ghost use Rattle.tp_netbook.specs.declared.fate.Fate.{Fate};
 ghost use Rattle.tp_rules.specs.Plan.{fate_by};
 ghost use Rattle.tp_script.specs.declared.script.PlanLine.{PlanLine as LineValue};
 
-use crate::route::Route;
+use crate::route::{Route, Routes};
 use indexmap::IndexMap;
 use std::alloc::Global;
 use tp_base::{ActorName, NoMemory};
@@ -57,8 +57,19 @@ impl Fates {
         Ok(fates)
     }
 
+    /// The fate of the next output between two actors. It is counted there only if the plan names an output at all.
+    pub(crate) fn of_next(&self, routes: &mut Routes, route: Route) -> Result<Fate, NoMemory>
+        ensures { IfOk result (TellsNext self.now routes.old routes.new route) }
+    {
+        if self.named.is_empty() {
+            return Ok(Fate::Times(self.others));
+        }
+        let ordinal = routes.count(route)?;
+        Ok(self.of(Passage { route, ordinal }))
+    }
+
     /// The fate of an output.
-    pub(crate) fn of(&self, passage: Passage) -> Fate
+    fn of(&self, passage: Passage) -> Fate
         ensures { (plan : List LineValue) → AreFates plan self.now → fate_of result ≡ fate_by plan passage.route.from passage.route.to passage.ordinal }
     {
         match self.named.get(&passage) {

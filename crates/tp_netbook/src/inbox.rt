@@ -9,7 +9,7 @@ ghost use Rattle.tp_rules.specs.declared.event.Event.TheVariants.{Deliver};
 ghost use Rattle.tp_rules.specs.declared.event.Parcel.{Parcel as ParcelValue};
 ghost use Rattle.tp_script.specs.declared.script.Script.{Script as ScriptValue};
 
-use crate::fate::{Fates, Passage};
+use crate::fate::Fates;
 use crate::line::lines_of;
 use crate::output::Output;
 use crate::route::{Route, Routes};
@@ -125,9 +125,7 @@ impl Inbox {
         ensures { OnOk result (Takes (parcel.now ∷ []) self.old self.new) }
     {
         let (from, to) = (parcel.message.from, parcel.message.to);
-        let route = Route { from, to };
-        let ordinal = self.routes.count(route)?;
-        let fate = self.fates.of(Passage { route, ordinal });
+        let fate = self.fates.of_next(&mut self.routes, Route { from, to })?;
         let output = Output::new(parcel.entry, parcel.place, to, fate);
         self.push(output, &parcel.message)?;
         Ok(())

@@ -9,7 +9,7 @@ ghost use Rattle.tp_script.specs.Accepted.{IsAccepted};
 ghost use Rattle.tp_script.specs.declared.script.Script.{Script as ScriptValue};
 
 use crate::deliveries::{Deliveries, Left, Slot};
-use crate::fate::{Fates, Passage};
+use crate::fate::Fates;
 use crate::netbook::watches;
 use crate::roster::{place_of_site, sites_of};
 use crate::route::{Route, Routes};
@@ -179,9 +179,7 @@ impl Ledger {
         ensures rest { OnOk result (KeepsPlan self.old self.new) }
     {
         let (from, to) = (message.from, message.to);
-        let route = Route { from, to };
-        let ordinal = self.routes.count(route)?;
-        let fate = self.fates.of(Passage { route, ordinal });
+        let fate = self.fates.of_next(&mut self.routes, Route { from, to })?;
         let entry = self.entries;
         self.deliveries.add(Slot { entry, place }, fate)?;
         Ok(())

@@ -1,7 +1,7 @@
 ghost use Rattle.std.specs.Option.{option_copied};
-ghost use Rattle.std.specs.Prelude.{◌≡◌, ◌<◌, ◌+◌, ◌^◌, ◌++◌, ◌∷◌, [], Bool, List, length, map, reverse, slice_get, IfOk, OnOk};
+ghost use Rattle.std.specs.Prelude.{◌≡◌, ◌<◌, ◌+◌, ◌^◌, ◌++◌, ◌∷◌, [], true, ℕ, Bool, List, Some, length, map, reverse, slice_get, IfOk, OnOk};
 ghost use Rattle.tp_bits.specs.Bits.{AreBits};
-ghost use Rattle.tp_netbook.specs.Netbook.{Adds, AreCounted, AreNext, ArePlaced, AreReady, AreReadyBut, AreWatches, IsNetbook, KeepsMarks, KeepsRest, Lists, Turns, deliveries, due_items, home_of, is_alive, is_free, is_ready, is_undue, lines, marked, own_item, own_items, watch_of};
+ghost use Rattle.tp_netbook.specs.Netbook.{Adds, AreCounted, AreNext, ArePlaced, AreReady, AreAllFree, AreReadyBut, AreWatches, IsFreeRight, IsNetbook, KeepsMarks, KeepsRest, Lists, Turns, TurnsByPlan, are_free, deliveries, due_items, home_of, is_alive, is_free, is_ready, is_undue, lines, marked, may_turn, own_item, own_items, watch_of};
 ghost use Rattle.tp_netbook.specs.Outputs.{passed};
 ghost use Rattle.tp_rules.specs.Journal.{numbered};
 ghost use Rattle.tp_rules.specs.Pending.{pending, sites_of};
@@ -10,9 +10,10 @@ ghost use Rattle.tp_rules.specs.declared.event.Entry.{Entry as EntryValue};
 ghost use Rattle.tp_script.specs.Accepted.{IsAccepted};
 ghost use Rattle.tp_script.specs.declared.script.Script.{Script as ScriptValue};
 
-use crate::fate::{Fates, Passage};
+use crate::fate::Fates;
 use crate::line::lines_of;
 use crate::output::{Inbox, Output, place_in};
+use crate::own_steps::OwnSteps;
 use crate::roster::{place_of_site, roster, sites_of};
 use crate::route::{Route, Routes};
 use crate::watch::Watch;
@@ -38,6 +39,8 @@ pub struct Netbook {
     ready: Bits,
     // How many plan lines are due.
     due: usize,
+    // Whether each site lives, and no line of its process is due.
+    all_free: bool,
     entries: u64,
 }
 
@@ -53,6 +56,7 @@ impl Netbook {
             topology: script.topology,
             roster: roster(alloc, script, sites.as_slice())?,
             due: count_due(&watches),
+            all_free: are_free(&watches),
             sites: watches,
             fates: Fates::new(alloc, script.plan.as_slice())?,
             routes: Routes::new(alloc),
@@ -65,15 +69,15 @@ impl Netbook {
     }
 
     /// How many steps may come next.
-    pub fn pending(&self, next: &[Option<Inner>]) -> u64
+    pub fn pending(&self, next: &OwnSteps) -> u64
         ensures { (script : ScriptValue) (journal : List EntryValue) → IsNetbook script journal self.now → IsAccepted script → IsRun script journal → AreNext script journal next.now → result ≡ length (pending script (reverse journal)) }
     {
-        let others = self.due.saturating_add(self.count_own(next));
-        self.count_deliveries().saturating_add(others as u64)
+        let others = (self.due as u64).saturating_add(self.count_own(next));
+        self.count_deliveries().saturating_add(others)
     }
 
     /// One of the steps that may come next, counted from 0.
-    pub fn item(&self, next: &[Option<Inner>], index: u64) -> Option<Item>
+    pub fn item(&self, next: &OwnSteps, index: u64) -> Option<Item>
         ensures { (script : ScriptValue) (journal : List EntryValue) → IsNetbook script journal self.now → IsAccepted script → IsRun script journal → AreNext script journal next.now → result ≡ slice_get (pending script (reverse journal)) index }
     {
         let index = index as usize;
@@ -181,17 +185,49 @@ impl Netbook {
         self.is_free(output.to) && output.left > 0
     }
 
-    fn count_own(&self, next: &[Option<Inner>]) -> usize
+    fn count_own(&self, next: &OwnSteps) -> u64
+        ensures { IsFreeRight self.now → length next.now ≡ length self.now.roster.items → result ≡ length (own_items self.now next.now) }
+    {
+        if self.all_free {
+            next.count()
+        } else {
+            self.count_among(next.as_slice())
+        }
+    }
+
+    fn count_among(&self, next: &[Option<Inner>]) -> u64
         ensures { result ≡ length (own_items self.now next.now) }
     {
-        self.roster
+        let many = self
+            .roster
             .iter()
             .zip(next)
             .filter_map(|own| self.own_item(*own.0, *own.1))
-            .count()
+            .count();
+        many as u64
     }
 
-    fn own(&self, next: &[Option<Inner>], index: usize) -> Option<Item>
+    fn own(&self, next: &OwnSteps, index: usize) -> Option<Item>
+        ensures { IsFreeRight self.now → length next.now ≡ length self.now.roster.items → result ≡ slice_get (own_items self.now next.now) index }
+    {
+        if self.all_free {
+            self.own_at(next, index)
+        } else {
+            self.own_among(next.as_slice(), index)
+        }
+    }
+
+    /// An actor's own step, by how many are there before it.
+    fn own_at(&self, next: &OwnSteps, index: usize) -> Option<Item>
+        ensures { AreAllFree self.now → length next.now ≡ length self.now.roster.items → result ≡ slice_get (own_items self.now next.now) index }
+    {
+        let place = next.select(index as u64)?;
+        let actor = self.roster.get(place)?;
+        let inner = next.as_slice().get(place)?;
+        self.own_item(*actor, *inner)
+    }
+
+    fn own_among(&self, next: &[Option<Inner>], index: usize) -> Option<Item>
         ensures { result ≡ slice_get (own_items self.now next.now) index }
     {
         let mut left = index;
@@ -276,7 +312,9 @@ impl Netbook {
     fn count(&mut self, actor: ActorName, event: Event) -> Option<usize>
         ensures sites { AreCounted actor event self.old self.old.sites.items self.new.sites.items }
         ensures turned { Turns result self.old self.new }
+        ensures plan { TurnsByPlan actor event result self.old }
         ensures due { self.old.due ≡ length (lines self.old) → self.new.due ≡ length (lines self.new) }
+        ensures free { self.old.all_free ≡ are_free self.old.sites.items → self.new.all_free ≡ are_free self.new.sites.items }
         ensures topology { self.new.topology ≡ self.old.topology }
         ensures outputs { self.new.outputs ≡ self.old.outputs }
         ensures starts { self.new.starts ≡ self.old.starts }
@@ -296,6 +334,7 @@ impl Netbook {
         }
         if self.sites[place].enter(event) {
             self.due = count_due(&self.sites);
+            self.all_free = are_free(&self.sites);
             Some(place)
         } else {
             None
@@ -321,11 +360,21 @@ impl Netbook {
         ensures rest { OnOk result (KeepsRest self.old self.new) }
     {
         let (from, to) = (message.from, message.to);
-        let route = Route { from, to };
-        let ordinal = self.routes.count(route)?;
-        let fate = self.fates.of(Passage { route, ordinal });
+        let fate = self.fates.of_next(&mut self.routes, Route { from, to })?;
         self.push(Output::new(self.entries, place, to, fate))?;
         Ok(())
+    }
+
+    /// The place of an actor's site, where the plan has a line for that.
+    fn listed_at(&self, actor: ActorName) -> Option<usize>
+        ensures { (home : ℕ) → home_of self.now.topology actor ≡ Some home → may_turn self.now home ≡ true → result ≡ Some home }
+    {
+        let home = home_of(&self.topology, actor)?;
+        let watch = self.sites.get(home)?;
+        if watch.lines.is_empty() {
+            return None;
+        }
+        Some(home)
     }
 
     /// Adds an output: to all of them, to its site's inbox, and whether it may be delivered or lost now.
@@ -338,7 +387,7 @@ impl Netbook {
         let ready = self.is_ready(&output);
         self.ready.push(ready)?;
         let place = self.outputs.len();
-        let home = home_of(&self.topology, output.to);
+        let home = self.listed_at(output.to);
         self.outputs.push(output)?;
         list(&mut self.inboxes, home, place)?;
         Ok(())
@@ -350,6 +399,13 @@ fn count_due(sites: &[Watch]) -> usize
     ensures { result ≡ length (due_items sites.now) }
 {
     sites.iter().filter_map(|watch| watch.item()).count()
+}
+
+/// Whether each site lives, and no line of its process is due.
+fn are_free(sites: &[Watch]) -> bool
+    ensures { result ≡ are_free sites.now }
+{
+    sites.iter().all(|watch| watch.is_free())
 }
 
 /// The place of an actor's site, if it is at one.

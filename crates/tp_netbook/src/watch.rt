@@ -1,5 +1,5 @@
 ghost use Rattle.std.specs.Prelude.{◌≡◌, ◌+◌, ◌<◌, ◌^◌, cond, not, true, ◌&&◌, ℕ, List};
-ghost use Rattle.tp_netbook.specs.Netbook.{line_due, line_item, turned};
+ghost use Rattle.tp_netbook.specs.Netbook.{is_free_there, line_due, line_item, turned};
 ghost use Rattle.tp_rules.specs.Journal.{is_crash};
 ghost use Rattle.tp_rules.specs.Plan.{is_planned};
 
@@ -28,6 +28,13 @@ impl Watch {
         } else {
             None
         }
+    }
+
+    /// Whether the site lives, and no line is due.
+    pub fn is_free(&self) -> bool
+        ensures { result ≡ is_free_there self.now }
+    {
+        self.live && self.due().is_none()
     }
 
     /// The line that is due, where the site lives.

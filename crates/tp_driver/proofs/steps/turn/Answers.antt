@@ -53,11 +53,12 @@ returns-clause-next g c =
     let known = (may_come c.args.script.now c.requires.accepted c.args.journal.now c.requires.driven.run c.in-Some.item c.in-Some.ensures.chosen).known in
     let there : slice_get (actors_of c.args.script.now) c.place_of-home.result ≡ Some c.in-Some.item.actor =
     ap (slice_get (actors_of c.args.script.now)) c.place_of-home.ensures ∙ get_place c.args.script.now c.in-Some.item.actor known in
-    subst (λ j. AreNext c.args.script.now j (set c.args.next.now c.place_of-home.result c.next_inner.result)) (sym c.in_ok-enter.ensures.entered)
+    subst (λ j. AreNext c.args.script.now j c.set.new.self) (sym c.in_ok-enter.ensures.entered)
+    (c.set.ensures ∙
     (next_after c.args.script.now c.args.journal.now e c.in-Some.item.actor known refl c.args.next.now c.place_of-home.result c.next_inner.result c.requires.next c.place_of-home.ensures
     (next_at g.A.Actor.identity_of g.A.Actor.is_spent g.A.Actor.stands c.args.script.now c.act_after.new.actors (c.args.journal.now ++ e ∷ []) (c.in_ok-outputs.ensures.cast e refl refl)
     c.place_of-home.result _ c.next_inner.result c.in-Some.item.actor
-    (slice_get-get_or c.act_after.new.actors c.place_of-home.result c.index-actors-home.result c.if-prove.false) there c.next_inner.ensures))
+    (slice_get-get_or c.act_after.new.actors c.place_of-home.result c.index-actors-home.result c.if-prove.false) there c.next_inner.ensures)))
 
 pub returns-clause-falls : goal.returns-clause-falls
 returns-clause-falls g c = λ went.

@@ -1,4 +1,4 @@
-use Rattle.std.proofs.Common.{◌≡◌, Bool, refl, subst, sym}
+use Rattle.std.proofs.Common.{Bool, refl, subst, sym}
 use Rattle.std.specs.Prelude.{◌&&◌, ◌↔◌, IsTrue, reverse}
 use Rattle.tp_netbook.proofs.Ledgers.{follows_is}
 use Rattle.tp_netbook.specs.Ledger.{is_left}

@@ -46,6 +46,7 @@ loop-i-preserved c =
         fates = kept.fates ∙ keeps.fates;
         starts = kept.starts ∙ keeps.starts;
         due = kept.due ∙ keeps.due;
+        all_free = kept.all_free ∙ keeps.all_free;
         entries = kept.entries ∙ keeps.entries;
       };
     }

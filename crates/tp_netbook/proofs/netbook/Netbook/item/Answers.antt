@@ -1,5 +1,5 @@
 use Rattle.std.proofs.Common.{◌≤◌, ◌-◌, ℕ, length, sym, ap, ◌∙◌}
-use Rattle.tp_netbook.proofs.Steps.{beyond, delivery_step, line_step, own_step}
+use Rattle.tp_netbook.proofs.Steps.{all_free, beyond, many_roster, delivery_step, line_step, own_step}
 use Rattle.tp_netbook.specs.Netbook.{deliveries, lines}
 use Rattle.tp_netbook.proofs.netbook.Netbook.item.Goals as goal
 
@@ -20,4 +20,5 @@ returns c = λ script journal is accepted run are.
     beyond (deliveries c.args.self.now) c.saturating_sub-index.result c.delivery.result (c.delivery.ensures is.ready) c.in_default-delivery.not-Some in
     own_step script journal c.args.self.now is accepted run c.args.next.now are c.args.index c.saturating_sub-index.result c.saturating_sub-index-2.result c.own.result past
     (c.saturating_sub-index.ensures ∙ ap (λ (n : ℕ). c.args.index - n) is.due) past'
-    (c.saturating_sub-index-2.ensures ∙ ap (λ (n : ℕ). c.saturating_sub-index.result - n) (c.count_deliveries.ensures.count is.ready)) c.own.ensures
+    (c.saturating_sub-index-2.ensures ∙ ap (λ (n : ℕ). c.saturating_sub-index.result - n) (c.count_deliveries.ensures.count is.ready))
+    (c.own.ensures (all_free script journal c.args.self.now is accepted run) (many_roster script journal c.args.self.now is accepted run c.args.next.now are))

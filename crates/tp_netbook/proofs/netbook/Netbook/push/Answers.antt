@@ -11,7 +11,7 @@ returns-clause-marks c =
     let place : c.len-place.result ≡ length c.args.self.now.outputs.items = omega (arith, c.len-place.ensures) in
     record {
       ready = ready_more c.args.self.now new c.args.output c.is_ready-ready.result refl refl c.in_ok-push-2.ensures.items c.is_ready-ready.ensures c.in_ok-push.ensures;
-      listed = listed_more c.args.self.now new c.args.output c.home_of-home.result c.in_ok-push-2.ensures.items refl c.home_of-home.ensures
-          (subst (λ n. Lists c.home_of-home.result n c.args.self.now.inboxes.items c.list.new.inboxes.items) place c.in_ok-list.ensures);
+      listed = listed_more c.args.self.now new c.args.output c.listed_at-home.result c.in_ok-push-2.ensures.items refl refl c.listed_at-home.ensures
+          (subst (λ n. Lists c.listed_at-home.result n c.args.self.now.inboxes.items c.list.new.inboxes.items) place c.in_ok-list.ensures);
       inboxes = c.in_ok-list.ensures.0;
     }

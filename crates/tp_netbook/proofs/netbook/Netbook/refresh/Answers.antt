@@ -20,7 +20,7 @@ returns-then-home-len-clause-ready c = λ but. no_inbox c.args.self.now c.args.t
 pub loop-k-init : goal.loop-k-init
 loop-k-init c = record {
   ready = none_marked c.args.self.now c.args.turned c.in-Some.home c.in-Some.is;
-  rest = record { topology = refl; sites = refl; roster = refl; fates = refl; starts = refl; due = refl; entries = refl };
+  rest = record { topology = refl; sites = refl; roster = refl; fates = refl; starts = refl; due = refl; all_free = refl; entries = refl };
   outputs = refl;
   routes = refl;
   inboxes = refl;
@@ -50,6 +50,7 @@ loop-k-preserved c =
         fates = after.fates ∙ before.fates;
         starts = after.starts ∙ before.starts;
         due = after.due ∙ before.due;
+        all_free = after.all_free ∙ before.all_free;
         entries = after.entries ∙ before.entries;
       };
       outputs = c.mark.ensures.outputs ∙ c.loop-k.invariant.outputs;

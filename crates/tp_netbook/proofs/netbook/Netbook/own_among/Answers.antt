@@ -6,8 +6,8 @@ use Rattle.std.specs.Prelude.{slice_get}
 use Rattle.tp_base.specs.declared.names.ActorName.{ActorName}
 use Rattle.tp_netbook.proofs.Parts.{kept_end, kept_from, kept_here, kept_later, kept_none, zip_at}
 use Rattle.tp_netbook.specs.Netbook.{own_item}
-use Rattle.tp_netbook.proofs.netbook.Netbook.own.Goals as goal
-use Rattle.tp_netbook.proofs.netbook.Netbook.own.Goals.{in-Some+else-left-eq0, in_default}
+use Rattle.tp_netbook.proofs.netbook.Netbook.own_among.Goals as goal
+use Rattle.tp_netbook.proofs.netbook.Netbook.own_among.Goals.{in-Some+else-left-eq0, in_default}
 use Rattle.tp_rules.specs.declared.event.Inner.{Inner}
 
 -- the actor and its step at a place
