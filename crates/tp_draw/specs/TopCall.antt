@@ -3,7 +3,7 @@ use Rattle.std.specs.Io.KnownBytes.{Appends, Keeps}
 use Rattle.std.specs.Prelude.{ℕ, ◌≡◌, ◌≤◌, ◌⊎◌, List, Option, Some, None, IfSome, Result, Ok, Err}
 use Rattle.tp_outside.specs.Bytes.{AppendsFront}
 use Rattle.tp_picture.specs.Shapes.{shapes}
-use Rattle.tp_picture.specs.Svg.{svg_text}
+use Rattle.tp_svg.specs.Svg.{svg_text}
 use Rattle.tp_picture.specs.declared.view.View.{View}
 use Rattle.tp_rules.specs.declared.event.Entry.{Entry}
 use Rattle.tp_run.specs.Both.{checked_of}

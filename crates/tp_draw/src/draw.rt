@@ -14,9 +14,10 @@ use std::alloc::Global;
 use tp_base::{Bytes, NoMemory};
 use tp_journal::Journal;
 use tp_outside::{Sink, Source, WriteFault, write_all};
-use tp_picture::{View, print_picture, shapes};
+use tp_picture::{View, shapes};
 use tp_run::{Cause, Finished, Given, read_to_check};
 use tp_script::Script;
+use tp_svg::print_picture;
 
 /// Reads a script and a journal, and writes the picture of the journal that the words choose.
 pub fn tempo_draw<S: Source, K: Sink>(

@@ -1,3 +1,3 @@
-pub mod Dotted
 pub mod Growing
 pub mod Places
+pub mod Told

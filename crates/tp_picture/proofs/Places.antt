@@ -9,7 +9,6 @@ use Rattle.tp_base.proofs.Ends.{reverse_push}
 use Rattle.tp_base.specs.declared.names.CommandId.{CommandId}
 use Rattle.tp_picture.specs.Laws.{GrowsFrom}
 use Rattle.tp_picture.specs.Scenes.{Scene, column, is_shown, place, row, row_where, shown, spot}
-use Rattle.tp_picture.specs.declared.place.Place.{Place}
 use Rattle.tp_picture.specs.declared.scene.Spot.{Spot}
 use Rattle.tp_rules.proofs.lists.UpTo.{get_map, get_up_to, length-up_to, map_length}
 use Rattle.tp_rules.specs.Outcome.{executed_by, line, once_at_end}

@@ -3,4 +3,3 @@ pub mod Laws
 pub mod Scenes
 pub mod Shapes
 pub mod Signs
-pub mod Svg

@@ -1,5 +1,5 @@
--- The shapes of a picture: each row, for each entry that is shown a dot, and for each delivery and loss an arrow or a cross
--- from the entry that sent the message to its own, where both are shown.
+-- The shapes of a picture: a legend, each row, for each entry that is shown a dot, for each loss a cross on it, and for each
+-- delivery and loss a line from the entry that sent the message to its own, where both are shown.
 use Rattle.std.specs.List.{flat_map}
 use Rattle.std.specs.Prelude.{ℕ, ◌+◌, ◌-◌, cond, List, [], ◌∷◌, ◌++◌, Option, Some, None, length, reverse, take}
 use Rattle.tp_base.specs.Lists.{has}
@@ -12,7 +12,7 @@ use Rattle.tp_picture.specs.Scenes.{Scene, place, row_end, scene_of, width}
 use Rattle.tp_picture.specs.Signs.{sign_of, sign_of_event}
 use Rattle.tp_picture.specs.declared.place.Place.{Place}
 use Rattle.tp_picture.specs.declared.shape.Shape.{Shape}
-use Rattle.tp_picture.specs.declared.shape.Shape.TheVariants.{Frame, Row, Arrow, Cross, Dot, End, First}
+use Rattle.tp_picture.specs.declared.shape.Shape.TheVariants.{Frame, Legend, Row, Arrow, Lost, Dot, Cross, End, First}
 use Rattle.tp_picture.specs.declared.sign.Sign.{Sign}
 use Rattle.tp_picture.specs.declared.view.View.{View}
 use Rattle.tp_rules.specs.Journal.{is_crash}
@@ -34,7 +34,7 @@ actor_row scene r (Some a) = Row r a (row_end scene a) ∷ []
 abbrev pub rows : Scene → List Shape
 rows scene = flat_map (λ r. actor_row scene r (nth scene.rows r)) (up_to (length scene.rows))
 
--- ---- arrows and crosses
+-- ---- arrows, and the ways of lost messages
 
 abbrev pub joined : (Place → Place → Shape) → Option Place → Option Place → List Shape
 joined shape None to = []
@@ -49,7 +49,7 @@ message_shapes scene shape sender n (Some m) =
 
 abbrev pub event_arrows : Scene → ℕ → Event → List Shape
 event_arrows scene n (Deliver sender p) = message_shapes scene Arrow sender n (output_in scene.journal sender p)
-event_arrows scene n (Dropped sender p) = message_shapes scene Cross sender n (output_in scene.journal sender p)
+event_arrows scene n (Dropped sender p) = message_shapes scene Lost sender n (output_in scene.journal sender p)
 event_arrows scene n (OfItself inner) = []
 
 abbrev pub entry_arrows : Scene → ℕ → Option Entry → List Shape
@@ -59,10 +59,12 @@ entry_arrows scene n (Some e) = event_arrows scene n e.event
 abbrev pub arrows : Scene → List Shape
 arrows scene = flat_map (λ n. entry_arrows scene n (nth scene.journal n)) (up_to (length scene.journal))
 
--- ---- dots, with a crash's end and a command's first execution
+-- ---- dots, with the mark of a loss or a crash, and a command's first execution
 
-abbrev pub ends : Event → Place → List Shape
-ends event at = cond (is_crash event) (End at ∷ []) []
+abbrev pub marks : Event → Place → List Shape
+marks (Deliver sender p) at = []
+marks (Dropped sender p) at = Cross at ∷ []
+marks (OfItself inner) at = cond (is_crash (OfItself inner)) (End at ∷ []) []
 
 -- the command that is executed, if it isn't in the line yet
 abbrev pub first_in : List CommandId → Option CommandId → Option CommandId
@@ -77,7 +79,7 @@ firsts scene (Some id) at = First id (record { entry = at.entry; column = at.col
 abbrev pub dots_at : Scene → Entry → Option CommandId → Option Place → List Shape
 dots_at scene e first None = []
 dots_at scene e first (Some at) =
-    Dot e.actor (sign_of_event scene.journal e.actor e.event) at ∷ ends e.event at ++ firsts scene first at
+    Dot e.actor (sign_of_event scene.journal e.actor e.event) at ∷ marks e.event at ++ firsts scene first at
 
 -- the line before an entry
 abbrev pub line_before : Scene → ℕ → List CommandId
@@ -93,7 +95,7 @@ dots scene = flat_map (λ n. entry_dots scene n (nth scene.journal n)) (up_to (l
 -- ---- the picture
 
 abbrev pub scene_shapes : Scene → List Shape
-scene_shapes scene = Frame (width scene) (length scene.rows) ∷ rows scene ++ arrows scene ++ dots scene
+scene_shapes scene = Frame (width scene) (length scene.rows) ∷ Legend (length scene.rows) ∷ rows scene ++ arrows scene ++ dots scene
 
 unfoldable pub shapes : Script → List Entry → View → List Shape
 shapes script journal view = scene_shapes (scene_of script journal view)

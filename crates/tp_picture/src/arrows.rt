@@ -47,7 +47,7 @@ fn joining(scene: &Scene, sender: u64, number: u64, message: Option<&Message>) -
     }
 }
 
-// The arrow or the cross of the entry of a number.
+// The line of the entry of a number, if it delivers or loses a message.
 fn put_event(
     shapes: &mut Vec<Shape>,
     scene: &Scene,
@@ -66,7 +66,7 @@ fn put_event(
         Event::Dropped { entry, place } => {
             let message = output(scene.entries(), entry, place);
             if let Some(Join { sign, from, to }) = joining(scene, entry, number, message) {
-                shapes.push(Shape::Cross { sign, from, to })?;
+                shapes.push(Shape::Lost { sign, from, to })?;
             }
         }
         Event::Inner(_) => {}
@@ -74,7 +74,7 @@ fn put_event(
     Ok(())
 }
 
-/// The arrows of all deliveries, and the crosses of all losses.
+/// The arrows of all deliveries, and the ways of all lost messages.
 pub(crate) fn put_arrows(shapes: &mut Vec<Shape>, scene: &Scene) -> Result<(), NoMemory>
     ensures { OnOk result (shapes.new.items ≡ shapes.old.items ++ arrows scene.now) }
 {

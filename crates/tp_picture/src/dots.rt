@@ -2,7 +2,7 @@ ghost use Rattle.std.specs.Prelude.{◌≡◌, ◌++◌, ◌-◌, ◌≤◌, ◌
 ghost use Rattle.tp_base.specs.Lists.{has};
 ghost use Rattle.tp_base.specs.Names.{same_id};
 ghost use Rattle.tp_picture.specs.Scenes.{place};
-ghost use Rattle.tp_picture.specs.Shapes.{dots, dots_at, ends, first_in, firsts};
+ghost use Rattle.tp_picture.specs.Shapes.{dots, dots_at, first_in, firsts, marks};
 ghost use Rattle.tp_rules.specs.Outcome.{executed_by, line, once_at_end};
 
 use crate::about::is_crash;
@@ -61,11 +61,18 @@ fn put_first(
     Ok(())
 }
 
-fn put_end(shapes: &mut Vec<Shape>, event: Event, at: Place) -> Result<(), NoMemory>
-    ensures { OnOk result (shapes.new.items ≡ shapes.old.items ++ ends event at) }
+// The mark of a loss or a crash.
+fn put_mark(shapes: &mut Vec<Shape>, event: Event, at: Place) -> Result<(), NoMemory>
+    ensures { OnOk result (shapes.new.items ≡ shapes.old.items ++ marks event at) }
 {
-    if is_crash(event) {
-        shapes.push(Shape::End { at })?;
+    match event {
+        Event::Deliver { .. } => {}
+        Event::Dropped { .. } => shapes.push(Shape::Cross { at })?,
+        Event::Inner(_) => {
+            if is_crash(event) {
+                shapes.push(Shape::End { at })?;
+            }
+        }
     }
     Ok(())
 }
@@ -85,7 +92,7 @@ fn put_at(
         sign: sign_of_event(scene.entries(), entry.actor, entry.event),
         at,
     })?;
-    put_end(shapes, entry.event, at)?;
+    put_mark(shapes, entry.event, at)?;
     put_first(shapes, scene, first, at)
 }
 
@@ -104,7 +111,7 @@ fn put_dot(
     Ok(())
 }
 
-/// The dots of all entries that are shown, the ends of crashed sites, and the line of commands.
+/// The dots of all entries that are shown, the marks of losses and crashes, and the line of commands.
 pub(crate) fn put_dots(
     alloc: Global,
     shapes: &mut Vec<Shape>,

@@ -1,4 +1,4 @@
-ghost use Rattle.tp_picture.specs.Laws.{GrowsFrom, HasDots};
+ghost use Rattle.tp_picture.specs.Laws.{GrowsFrom, HasArrows, HasCrosses, HasDots, HasLosses};
 ghost use Rattle.tp_picture.specs.Scenes.{scene_of};
 
 use crate::view::View;
@@ -14,4 +14,17 @@ pub fn law_columns(script: &Script, journal: &Journal, view: &View)
 /// The numbers of a picture's dots are those of the entries that are shown, each once and in order.
 pub fn law_dots(script: &Script, journal: &Journal, view: &View)
     ensures { HasDots script.now journal.now view.now }
+{}
+
+/// The numbers of a picture's crosses are those of the losses that are shown, each once and in order.
+pub fn law_crosses(script: &Script, journal: &Journal, view: &View)
+    ensures { HasCrosses script.now journal.now view.now }
+{}
+
+/// A picture's arrows are those of the deliveries, each once and in order, from the entry that sent the
+/// message to the one that delivers it, where both are shown. The ways of lost messages are those of the
+/// losses.
+pub fn law_arrows(script: &Script, journal: &Journal, view: &View)
+    ensures delivered { HasArrows script.now journal.now view.now }
+    ensures lost { HasLosses script.now journal.now view.now }
 {}

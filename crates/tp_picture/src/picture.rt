@@ -65,6 +65,9 @@ pub fn shapes(
         columns: scene.width(),
         rows: scene.rows().len(),
     })?;
+    shapes.push(Shape::Legend {
+        rows: scene.rows().len(),
+    })?;
     put_rows(&mut shapes, &scene)?;
     put_arrows(&mut shapes, &scene)?;
     put_dots(alloc, &mut shapes, &scene)?;

@@ -5,9 +5,13 @@ use tp_base::{ActorName, CommandId};
 /// A part of a picture.
 #[derive(Clone, Copy, Debug, PartialEq, Eq)]
 pub enum Shape {
-    /// The picture's size, its classes and its legend.
+    /// The picture's size, how each class is drawn, and the name of the line of commands.
     Frame {
         columns: usize,
+        rows: usize,
+    },
+    /// What each class and mark means, below so many rows.
+    Legend {
         rows: usize,
     },
     /// An actor's row, up to the column where it ends.
@@ -22,8 +26,8 @@ pub enum Shape {
         from: Place,
         to: Place,
     },
-    /// A loss, from the entry that sent the message to the one that loses it.
-    Cross {
+    /// The way of a lost message, from the entry that sent it to the one that loses it.
+    Lost {
         sign: Sign,
         from: Place,
         to: Place,
@@ -32,6 +36,10 @@ pub enum Shape {
     Dot {
         actor: ActorName,
         sign: Option<Sign>,
+        at: Place,
+    },
+    /// A loss.
+    Cross {
         at: Place,
     },
     /// A site's crash.

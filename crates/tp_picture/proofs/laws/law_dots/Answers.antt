@@ -1,4 +1,4 @@
-use Rattle.tp_picture.proofs.Dotted.{dots_law}
+use Rattle.tp_picture.proofs.Told.{dots_law}
 use Rattle.tp_picture.proofs.laws.law_dots.Goals as goal
 
 pub returns : goal.returns

@@ -1,5 +1,5 @@
 use Rattle.std.proofs.Common.{◌≡◌, ◌≤◌, map}
-use Rattle.tp_picture.specs.Scenes.{Scene, shown, spot}
+use Rattle.tp_picture.specs.Scenes.{shown, spot}
 use Rattle.tp_topology.specs.Counting.{up_to}
 use Rattle.tp_picture.proofs.scene.spots_of.Given as goal
 

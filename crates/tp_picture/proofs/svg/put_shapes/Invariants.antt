@@ -1,7 +1,0 @@
-use Rattle.std.proofs.Common.{◌≡◌, ◌++◌, take}
-use Rattle.std.specs.List.{flat_map}
-use Rattle.tp_picture.specs.Svg.{shape_text}
-use Rattle.tp_picture.proofs.svg.put_shapes.Given as goal
-
-abbrev pub invariant-loop-shape : goal.invariant-loop-shape
-invariant-loop-shape l = l.out ≡ l.initial.out ++ flat_map shape_text (take l.shape-index l.shapes)
