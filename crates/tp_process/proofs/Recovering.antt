@@ -1,8 +1,8 @@
 -- How a recovery goes on with the state of the rules: the ballot that is tried, and what is told to those who try one.
 use Rattle.std.proofs.Common.{◌≡◌, ℕ, ◌-◌, ◌<◌, Bool, true, false, ◌&&◌, cond, List, [], Option, Some, None, is_some, refl, sym, ap, subst, ◌∙◌, arith}
-use Rattle.std.proofs.lemmas.Bool.{and_parts, cond-true, cond-false, eqb-true, lt-ltb}
+use Rattle.std.proofs.lemmas.Bool.{and_parts, cond-true, cond-false, lt-ltb}
 use Rattle.std.proofs.lemmas.Option.{cond_some}
-use Rattle.std.specs.Prelude.{◌==◌, is_none, nat_lt}
+use Rattle.std.specs.Prelude.{is_none, nat_lt}
 use Rattle.indexmap.specs.IndexMap.{IndexMap}
 use Rattle.tp_base.specs.Limits.{STAMP_LIMIT}
 use Rattle.tp_base.specs.Promises.{proposed_stamp}
@@ -15,11 +15,11 @@ use Rattle.tp_choice.specs.declared.answer.RecoveryAnswer.{RecoveryAnswer}
 use Rattle.tp_ops.specs.declared.command.Command.{Command}
 use Rattle.tp_process.proofs.Learning.{changed, put_back}
 use Rattle.tp_process.proofs.LowStamps.{kept_low, trying_low, with_ballot_low, with_proposal_low}
-use Rattle.tp_process.proofs.Proposing.{later, same_room, stamp_low}
+use Rattle.tp_process.proofs.Proposing.{later, stamp_low}
 use Rattle.tp_process.specs.Sheets.{ChangesSheet, sheet_at}
-use Rattle.tp_process.specs.State.{Agrees, agreed_above, answer_with, site_sheet}
+use Rattle.tp_process.specs.State.{Agrees, agreed_above, site_sheet}
 use Rattle.tp_rules.specs.Addresses.{is_command_at}
-use Rattle.tp_rules.specs.Process.{Step, ProcessState, answer_with_old_proposal, answer, has_next, answer_recovery, next_stamp, on_rec, on_rec_by_stamp, on_recover, propose_and_answer, recovering, commit_reply, with_room, with_sheet}
+use Rattle.tp_rules.specs.Process.{Step, ProcessState, answer_with_old_proposal, has_next, answer_recovery, next_stamp, on_rec_by_stamp, on_recover, propose_and_answer, recovering, with_room, with_sheet}
 use Rattle.tp_rules.specs.Sheet.{Sheet, is_fresh, is_untouched, with_command, ring_rule, stamp_of, trying, with_ballot, with_proposal}
 use Rattle.tp_sheet.specs.SiteSheet.{SiteSheet, answer_of, ballot_by, promise_by, trying_at, with_promise, with_sheet as keeping, with_try}
 use Rattle.tp_topology.specs.Ballots.{next_ballot}
@@ -83,35 +83,15 @@ module _ {S : Type 0} (shape : Shape) (me : Site) (clock told : ℕ) (pairs : Li
 
 -- what is told to a recovery
 
--- a ballot that no recovery tries is not taken
-untried : (own b : ℕ) → (nat_lt 0 b && nat_lt b STAMP_LIMIT) ≡ false → (nat_lt own b && nat_lt b STAMP_LIMIT) ≡ false
-untried own b e = grind arith
-
 -- a sheet without the partition's stamp is fresh just where it is untouched
 pub fresh_is : (p : ℕ) (sheet : Sheet) (t : Bool) → stamp_of sheet p ≡ None → is_fresh p sheet ≡ t → is_untouched sheet ≡ t
 fresh_is p sheet t unknown e = grind (arith, unknown, e)
-
--- an untouched sheet agreed to no ballot
-pub untouched_below : (sheet : Sheet) (b : ℕ) → is_untouched sheet ≡ true → (nat_lt 0 b && nat_lt b STAMP_LIMIT) ≡ true
-    → (nat_lt sheet.ballot b ≡ true) × ((nat_lt sheet.ballot b && nat_lt b STAMP_LIMIT) ≡ true)
-untouched_below sheet b untouched tried =
-    let none : sheet.ballot ≡ 0 = eqb-true sheet.ballot 0 (and_parts (is_none sheet.proposal) (sheet.ballot == 0) untouched).1 in
-    let both = and_parts (nat_lt 0 b) (nat_lt b STAMP_LIMIT) tried in (
-      ap (λ (n : ℕ). nat_lt n b) none ∙ both.0,
-      ap (λ (n : ℕ). nat_lt n b && nat_lt b STAMP_LIMIT) none ∙ tried,
-    )
 
 abbrev pub proposed_at : ℕ → Command → SiteSheet → SiteSheet
 proposed_at t k old = keeping (with_proposal t Recovery (with_command k old.sheet)) old
 
 promises : (b : ℕ) (x : SiteSheet) → nat_lt x.sheet.ballot b ≡ true → with_promise b x ≡ keeping (with_ballot b x.sheet) x
 promises b x above = ap (λ (a : Bool). keeping (cond a (with_ballot b x.sheet) x.sheet) x) above
-
--- a ballot that is above is not refused
-pub not_refused : (b t : ℕ) (k : Command) (x : SiteSheet) → nat_lt x.sheet.ballot b ≡ true → promise_by b (proposed_at t k x) ≡ None → ⊥
-not_refused b t k x above e =
-    let some : Some (answer_of (proposed_at t k x)) ≡ None = ap (λ (a : Bool). cond a (Some (answer_of (proposed_at t k x))) None) (sym above) ∙ e in
-    absurd cc
 
 module _ {S : Type 0} (shape : Shape) (site : Site) (clock told : ℕ) (pairs : List Pair) (sheets : IndexMap CommandId SiteSheet S) (c : Command) (s : ProcessState)
     (h : Agrees shape site clock told pairs sheets s) where
@@ -121,21 +101,6 @@ module _ {S : Type 0} (shape : Shape) (site : Site) (clock told : ℕ) (pairs : 
   has_room : (moved : Step) → moved.0.clock ≡ s.clock → with_room s moved ≡ moved
   has_room moved same =
       cond-true {A = Step} (nat_lt moved.0.clock STAMP_LIMIT) moved (s, []) (lt-ltb moved.0.clock STAMP_LIMIT (subst (λ (n : ℕ). n < STAMP_LIMIT) (sym same) h.room))
-
-  -- by whether the partition's stamp is known
-  by_stamp : (from : ActorName) (b : ℕ) (o : Option ℕ) → stamp_of (sheet_at shape site sheets c.id).sheet site.partition.0 ≡ o
-      → with_room s (on_rec (ring_rule shape) site from c b s) ≡ with_room s (on_rec_by_stamp (ring_rule shape) site from c b o s)
-  by_stamp from b o e =
-      ap (λ (known : Option ℕ). with_room s (on_rec_by_stamp (ring_rule shape) site from c b known s))
-      (ap (λ (kept : SiteSheet). stamp_of kept.sheet site.partition.0) (sym (h.sheets_are c.id)) ∙ e)
-
-  pub rec_known : (from : ActorName) (b t : ℕ) → stamp_of (sheet_at shape site sheets c.id).sheet site.partition.0 ≡ Some t
-      → with_room s (on_rec (ring_rule shape) site from c b s) ≡ (s, commit_reply site from sheet.command t)
-  rec_known from b t e = by_stamp from b (Some t) e ∙ has_room (s, commit_reply site from sheet.command t) refl
-
-  pub rec_unknown : (from : ActorName) (b : ℕ) → stamp_of (sheet_at shape site sheets c.id).sheet site.partition.0 ≡ None
-      → with_room s (on_rec (ring_rule shape) site from c b s) ≡ with_room s (on_rec_by_stamp (ring_rule shape) site from c b None s)
-  rec_unknown from b e = by_stamp from b None e
 
   -- whether the process answers at a ballot, by its fields and by the state
   abbrev takes : ℕ → Bool
@@ -154,10 +119,6 @@ module _ {S : Type 0} (shape : Shape) (site : Site) (clock told : ℕ) (pairs : 
   join_refused from b e =
       ap (λ (moved : Step). with_room s moved) (cond-false {A = Step} (takes_in b) (joining from b) (s, []) (same_test b ∙ e))
       ∙ has_room (s, []) refl
-
-  pub join_untried : (from : ActorName) (b : ℕ) → (nat_lt 0 b && nat_lt b STAMP_LIMIT) ≡ false
-      → with_room s (on_rec_by_stamp (ring_rule shape) site from c b None s) ≡ (s, [])
-  join_untried from b e = join_refused from b (untried (sheet_at shape site sheets c.id).sheet.ballot b e)
 
   join_taken : (from : ActorName) (b : ℕ) → takes b ≡ true
       → with_room s (on_rec_by_stamp (ring_rule shape) site from c b None s) ≡ with_room s (joining from b)
@@ -191,25 +152,6 @@ module _ {S : Type 0} (shape : Shape) (site : Site) (clock told : ℕ) (pairs : 
           ∙ has_room (agreeing from b) refl
       go false e = join_refused from b (there false e)
 
-  proposing_late : (from : ActorName) (b : ℕ) → takes b ≡ true → is_untouched (sheet_at shape site sheets c.id).sheet ≡ true
-      → with_room s (on_rec_by_stamp (ring_rule shape) site from c b None s) ≡ with_room s (late from b)
-  proposing_late from b e untouched =
-      join_taken from b e
-      ∙ ap (λ (moved : Step). with_room s moved) (cond-true {A = Step} (is_untouched sheet) (late from b) (agreeing from b) (untouched_in true untouched))
-
-  room_is : (r : Bool) → nat_lt clock (STAMP_LIMIT - 1) ≡ r → nat_lt (next_stamp 0 s) STAMP_LIMIT ≡ r
-  room_is r e = same_room 0 s.clock (omega arith) ∙ ap (λ (n : ℕ). nat_lt n (STAMP_LIMIT - 1)) (sym h.clock_is) ∙ e
-
-  pub join_full : (from : ActorName) (b : ℕ) → takes b ≡ true → is_untouched (sheet_at shape site sheets c.id).sheet ≡ true
-      → nat_lt clock (STAMP_LIMIT - 1) ≡ false → with_room s (on_rec_by_stamp (ring_rule shape) site from c b None s) ≡ (s, [])
-  join_full from b e untouched full =
-      proposing_late from b e untouched ∙ cond-false {A = Step} (nat_lt (next_stamp 0 s) STAMP_LIMIT) (late from b) (s, []) (room_is false full)
-
-  pub join_proposes : (from : ActorName) (b : ℕ) → takes b ≡ true → is_untouched (sheet_at shape site sheets c.id).sheet ≡ true
-      → nat_lt clock (STAMP_LIMIT - 1) ≡ true → with_room s (on_rec_by_stamp (ring_rule shape) site from c b None s) ≡ late from b
-  join_proposes from b e untouched room =
-      proposing_late from b e untouched ∙ cond-true {A = Step} (nat_lt (next_stamp 0 s) STAMP_LIMIT) (late from b) (s, []) (room_is true room)
-
   -- the stamp of the proposal is that of the rules, above the clock and below the limit
   pub late_stamp : (t : ℕ) → t ≡ proposed_stamp 0 clock → next_stamp 0 s ≡ t
   late_stamp t is_stamp = ap (λ (n : ℕ). proposed_stamp 0 n) (sym h.clock_is) ∙ sym is_stamp
@@ -238,16 +180,6 @@ module _ {S : Type 0} (shape : Shape) (site : Site) (clock told : ℕ) (pairs : 
       ∙ ap (λ (old : SiteSheet). keeping (late_sheet b t c old.sheet) old) (h.sheets_are c.id))
       (with_ballot_low b (with_proposal t Recovery (with_command c sheet))
       (with_proposal_low t Recovery (with_command c sheet) (kept_low site.partition.0 c sheet homed (h.low c.id)))) h
-
-  -- what is told is what the rules tell
-  pub tells_late : (copy : Command) (b t : ℕ) (told_now : RecoveryAnswer) → copy ≡ c → promise_by b (proposed_at t copy (sheet_at shape site sheets copy.id)) ≡ Some told_now
-      → (from : ActorName) → answer_with site from c.id b told_now ≡ answer site from c.id b (late_sheet b t c sheet)
-  tells_late copy b t told_now same e from =
-      let now : promise_by b (proposed_at t c (sheet_at shape site sheets c.id)) ≡ Some told_now =
-      subst (λ (k : Command). promise_by b (proposed_at t k (sheet_at shape site sheets k.id)) ≡ Some told_now) same e in
-      ap (λ (a : RecoveryAnswer). answer_with site from c.id b a)
-      (sym (cond_some (nat_lt (sheet_at shape site sheets c.id).sheet.ballot b) (answer_of (proposed_at t c (sheet_at shape site sheets c.id))) told_now now).1
-      ∙ ap (λ (old : SiteSheet). answer_of (proposed_at t c old)) (h.sheets_are c.id))
 
 -- agreed to a ballot above the one agreed to before
 

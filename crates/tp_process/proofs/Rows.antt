@@ -109,10 +109,6 @@ module _ {X : Type 0} (f : ℕ → X) (keep : X → Bool) (base : List X) (n : �
       same ∙ e ∙ ap (λ (l : List X). base ++ l)
       (sym (kept-next ∙ ap (λ (l : List X). filter keep (map f (up_to (n - 1))) ++ l) (filter-out keep (f n) fails) ∙ append-nil (filter keep (map f (up_to (n - 1))))))
 
--- the last number, after the loop
-pub last_is : (rank n : ℕ) → n + 1 ≤ rank → rank ≤ n + 1 → rank - 1 ≡ n
-last_is rank n low high = omega arith
-
 -- one item more of a list that f is applied to
 pub taken-next : {X Y : Type 0} (f : X → Y) (base : List Y) (items : List X) (i : ℕ) (x : X) (ys zs : List Y)
     → take (i + 1) items ≡ take i items ++ x ∷ [] → ys ≡ base ++ map f (take i items) → zs ≡ ys ++ f x ∷ [] → zs ≡ base ++ map f (take (i + 1) items)
