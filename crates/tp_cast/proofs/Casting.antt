@@ -1,5 +1,5 @@
 -- The script's actors, made one after the other.
-use Rattle.std.proofs.Common.{◌≡◌, ℕ, zero, suc, ◌+◌, ◌-◌, ◌≤◌, List, [], ◌∷◌, ◌++◌, length, map, Some, refl, sym, ap, subst, ◌∙◌, append_assoc, arith}
+use Rattle.std.proofs.Common.{◌≡◌, ℕ, zero, suc, ◌+◌, ◌-◌, ◌≤◌, List, [], ◌∷◌, ◌++◌, length, map, Some, refl, sym, ap, subst, ◌∙◌, append_assoc}
 use Rattle.std.proofs.lemmas.Grind.{flat_map-append}
 use Rattle.std.proofs.lemmas.List.{append-nil, map-append}
 use Rattle.std.specs.List.{flat_map}
@@ -14,6 +14,7 @@ use Rattle.tp_rules.specs.Pending.{actors_of, sites_of}
 use Rattle.tp_cast.specs.Actors.{AreNew, IsNew, Stands, identity, is_spent}
 use Rattle.tp_cast.specs.declared.any_actor.AnyActor.{AnyActor}
 use Rattle.tp_script.specs.declared.script.Script.{Script}
+use Rattle.tp_topology.proofs.UpTo.{up_to-next}
 use Rattle.tp_topology.specs.Counting.{up_to}
 
 module _ (script : Script) where
@@ -22,13 +23,6 @@ module _ (script : Script) where
   new_push (m ∷ ns) (b ∷ xs) n a h is = (h.0, new_push ns xs n a h.1 is)
   new_push [] (b ∷ xs) n a h is = absurd h
   new_push (m ∷ ns) [] n a h is = absurd h
-
-  up_to-next : (k : ℕ) → 1 ≤ k → up_to (k + 1 - 1) ≡ up_to (k - 1) ++ k ∷ []
-  up_to-next zero some = absurd (omega arith)
-  up_to-next (suc k) some =
-      let here : suc k + 1 - 1 ≡ suc k = omega arith in
-      let before : k ≡ suc k - 1 = omega arith in
-      ap (λ (m : ℕ). up_to m) here ∙ ap (λ (m : ℕ). up_to m ++ suc k ∷ []) before
 
   -- one more name of a row
   pub new_next : (f : ℕ → ActorName) (k : ℕ) (names : List ActorName) (xs ys : List AnyActor) (a : AnyActor) → 1 ≤ k

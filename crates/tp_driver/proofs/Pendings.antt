@@ -122,7 +122,7 @@ line_due script s made i inner e = of (slice_get (plan_of script s) i) refl e
         let same : p.inner ≡ inner = let some = parts.1 in cc in
         ap (λ (i : Inner). is_planned (OfItself i)) (sym same) ∙ line
 
-due_line : (script : Script) (older : List Entry) (s : Site) (inner : Inner) → due script older s ≡ Some inner → is_planned (OfItself inner) ≡ true
+pub due_line : (script : Script) (older : List Entry) (s : Site) (inner : Inner) → due script older s ≡ Some inner → is_planned (OfItself inner) ≡ true
 unfolding due
 due_line script older s inner e = line_due script s (length (entries_of older s)) (length (filter (λ x. is_planned x.event) (entries_of older s))) inner e
 
@@ -137,7 +137,7 @@ record IsNext (script : Script) (older : List Entry) (it : Item) : Type 0 where
 module _ (script : Script) (accepted : IsAccepted script) (older : List Entry) (history : IsFreeHistory script older) where
   -- a due line
 
-  planned_may : (s : Site) (inner : Inner) → is_planned (OfItself inner) ≡ true → MayMake (identity_in script (Process s)) (acts older (Process s)) inner
+  pub planned_may : (s : Site) (inner : Inner) → is_planned (OfItself inner) ≡ true → MayMake (identity_in script (Process s)) (acts older (Process s)) inner
   planned_may s (Recover id) e = tt
   planned_may s Crash e = tt
   planned_may s (Submit n) e = absurd cc

@@ -137,7 +137,7 @@ module _ (script : Script) (older : List Entry) (history : IsFreeHistory script 
 
 -- outputs in the order in which they were sent
 
-abbrev is_before : Parcel → Parcel → Bool
+abbrev pub is_before : Parcel → Parcel → Bool
 is_before p q = nat_lt p.entry q.entry || ((p.entry == q.entry) && nat_lt p.place q.place)
 
 ascends_both : {X : Type 0} (before : X → X → Bool) (xs ys : List X) → Ascends before xs → Ascends before ys
@@ -151,7 +151,7 @@ ascends_both before (x ∷ xs) ys h k over = (
   ascends_both before xs ys h.1 k (λ z y i j. over z y (inr i) j),
 )
 
-ascends_filter : {X : Type 0} (before : X → X → Bool) (p : X → Bool) (xs : List X) → Ascends before xs → Ascends before (filter p xs)
+pub ascends_filter : {X : Type 0} (before : X → X → Bool) (p : X → Bool) (xs : List X) → Ascends before xs → Ascends before (filter p xs)
 ascends_filter before p [] h = tt
 ascends_filter before p (x ∷ xs) h = elim (cases_Bool (p x)) [
   | inl t ↦ subst (Ascends before) (sym (filter_yes p x xs t)) (
@@ -170,7 +170,7 @@ numbered_ascends n k (m ∷ ms) = (
   numbered_ascends n (suc k) ms,
 )
 
-sent_ascends : (older : List Entry) → Ascends is_before (sent older)
+pub sent_ascends : (older : List Entry) → Ascends is_before (sent older)
 sent_ascends [] = tt
 sent_ascends (e ∷ older) = ascends_both is_before (sent older) (numbered (suc (length older)) 1 e.outputs) (sent_ascends older)
     (numbered_ascends (suc (length older)) 1 e.outputs)

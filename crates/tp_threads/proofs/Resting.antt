@@ -1,13 +1,13 @@
 -- Once every live actor's cell has seen the whole journal and its actor has nothing to do, and the site of every other
 -- crashed in it, nothing is pending.
-use Rattle.std.proofs.Common.{◌≡◌, ◌≢◌, ◌⊎◌, ℕ, ◌+◌, ◌≤◌, inl, inr, Bool, true, false, not, List, [], ◌∷◌, ◌++◌, Option, Some, None, option_map, length, refl, sym, ap, subst, ◌∙◌, arith}
+use Rattle.std.proofs.Common.{◌≡◌, ◌≢◌, ◌⊎◌, ℕ, ◌+◌, ◌≤◌, inl, inr, Bool, true, false, not, List, [], ◌∷◌, ◌++◌, Some, None, option_map, length, refl, sym, ap, subst, ◌∙◌, arith}
 use Rattle.std.proofs.lemmas.List.{append-nil}
-use Rattle.std.specs.List.{list_any, position}
-use Rattle.std.specs.Option.{option_and_then}
-use Rattle.std.specs.Prelude.{◌||◌, reverse}
+use Rattle.std.specs.List.{position}
+use Rattle.std.specs.Prelude.{reverse}
 use Rattle.atomic_table.specs.Seated.{TableId}
 use Rattle.tp_base.proofs.Each.{each_in}
 use Rattle.tp_base.proofs.Members.{in_reverse}
+use Rattle.tp_base.proofs.Tests.{none_in}
 use Rattle.tp_base.specs.Lists.{Each, IsIn, IsPrefixOf}
 use Rattle.tp_base.specs.declared.names.ActorName.{ActorName}
 use Rattle.tp_base.specs.declared.names.ActorName.TheVariants.{Process, Executor, Session}
@@ -41,19 +41,10 @@ none_at {X} p (x ∷ xs) h = found_later p (x ∷ []) xs (alone (h x (inl refl))
     alone : p x ≡ false → position p (x ∷ []) ≡ None
     alone e = rw e refl
 
-passes_none : {X : Type 0} (p : X → Bool) (xs : List X) (x : X) → list_any p xs ≡ false → IsIn x xs → p x ≡ false
-passes_none p [] x e h = absurd h
-passes_none {X} p (y ∷ xs) x e h = by (p y) refl e h (λ f k. passes_none p xs x f k)
-  where
-    by : (b : Bool) → p y ≡ b → (b || list_any p xs) ≡ false → IsIn x (y ∷ xs) → (list_any p xs ≡ false → IsIn x xs → p x ≡ false) → p x ≡ false
-    by true is f k rest = absurd cc
-    by false is f (inl same) rest = ap p same ∙ is
-    by false is f (inr later) rest = rest f later
-
 site_dead : (s : Site) (journal : List Entry) (n : ℕ) → first_crash s journal ≡ Some n → not (has_crashed (reverse journal) s) ≡ true → ⊥
 site_dead s journal n e lives =
     let none : position (is_crash_of s) journal ≡ None =
-    none_at (is_crash_of s) journal (λ x h. passes_none (is_crash_of s) (reverse journal) x (falls (has_crashed (reverse journal) s) lives) (in_reverse journal x h)) in
+    none_at (is_crash_of s) journal (λ x h. none_in (is_crash_of s) (reverse journal) x (falls (has_crashed (reverse journal) s) lives) (in_reverse journal x h)) in
     let wrong : None ≡ Some n = sym (ap (option_map (λ i. i + 1)) none) ∙ e in
     absurd cc
   where

@@ -1,18 +1,14 @@
 -- What becomes of a cell by one step after the other. Used where a cell works, and by the rounds.
-use Rattle.std.proofs.Common.{◌≡◌, ◌+◌, ◌<◌, ◌≤◌, ℕ, zero, suc, List, [], ◌∷◌, ◌++◌, Some, length, take, refl, sym, ap, subst, ◌∙◌, length-append, take_all, arith}
-use Rattle.std.specs.Prelude.{slice_get, slice_index_or}
+use Rattle.std.proofs.Common.{◌≡◌, ◌<◌, ◌≤◌, ℕ, zero, suc, List, [], ◌∷◌, ◌++◌, length, take, sym, ap, subst, ◌∙◌, length-append, take_all, arith}
+use Rattle.std.specs.Prelude.{slice_index_or}
 use Rattle.atomic_table.specs.Seated.{TableId}
-use Rattle.tp_base.proofs.Each.{each_in, each_push}
-use Rattle.tp_base.proofs.Prefixes.{prefix_self, prefix_then}
+use Rattle.tp_base.proofs.Each.{each_in}
+use Rattle.tp_base.proofs.Prefixes.{prefix_then}
 use Rattle.tp_base.specs.Lists.{Each}
-use Rattle.tp_netbook.proofs.Rosters.{take_next}
 use Rattle.tp_rules.specs.Acts.{Identity}
 use Rattle.tp_shared.specs.Known.{Known}
 use Rattle.tp_worker.specs.Cells.{AllDone, AllGoOn, GoesOn, HasGrown, IsDone, Worker, with_more}
 use Rattle.tp_worker.specs.declared.cell.CellState.TheVariants.{Live}
-
-pub grown_self : (k : Known) → HasGrown k k
-grown_self k = record { same = refl; own = prefix_self k.own; seen = prefix_self k.seen }
 
 pub grown_then : (j k l : Known) → HasGrown j k → HasGrown k l → HasGrown j l
 grown_then j k l h i = record {
@@ -25,8 +21,6 @@ pub table_then : (j k : Known) → HasGrown j k → k.table ≡ j.table
 table_then j k h = ap (λ (m : Known). m.table) h.same
 
 module _ {A : Type 0} (identity_of : A → Identity) where
-  pub goes_self : (w : Worker A) → GoesOn identity_of w w
-  goes_self w = record { identity = refl; desk = grown_self w.desk; ended = λ e. refl }
 
   pub goes_then : (u v w : Worker A) → GoesOn identity_of u v → GoesOn identity_of v w → GoesOn identity_of u w
   goes_then u v w h i = record {
@@ -54,8 +48,6 @@ place_each P (x ∷ xs) each zero d lt = each.0
 place_each P (x ∷ xs) each (suc i) d lt = place_each P xs each.1 i d (omega (arith, lt))
 
 module _ {A : Type 0} (identity_of : A → Identity) where
-  pub all_self : (ws : List (Worker A)) → AllGoOn identity_of ws ws
-  all_self ws = (refl, λ i d lt. goes_self identity_of (slice_index_or ws i d))
 
   pub all_then : (us vs ws : List (Worker A)) → AllGoOn identity_of us vs → AllGoOn identity_of vs ws → AllGoOn identity_of us ws
   all_then us vs ws h k = (
@@ -82,9 +74,6 @@ all_done {A} cells most done within all = record {
 }
 
 -- one more of a list
-
-pub each_next : {X : Type 0} (P : X → Type 0) (xs : List X) (i : ℕ) (x : X) → slice_get xs i ≡ Some x → Each P (take i xs) → P x → Each P (take (i + 1) xs)
-each_next P xs i x at each here = subst (Each P) (sym (take_next xs i x at)) (each_push P (take i xs) x each here)
 
 pub each_all : {X : Type 0} (P : X → Type 0) (xs : List X) (n : ℕ) → length xs ≤ n → Each P (take n xs) → Each P xs
 each_all P xs n past each = subst (Each P) (take_all n xs past) each

@@ -275,13 +275,6 @@ module _ (p q : Post) (held after : Known) (e : Entry) (post : IsPost (name_of p
   post_made fetched now made short all may done = subst (λ (n : ActorName). IsPost n q) (sym (ap (λ (k : Known). name_of k.actor) own_desk))
       (post_next (name_of p.desk.actor) p q post own_grows now own_desk fetched held.seen e grows (others_only p q held post holds grows told) own_seen actor own_is made short all may done)
 
-  pub worked_made : q.made ≡ p.made + 1 → q.fetched ≤ length q.desk.seen → HasWorked p q
-  worked_made made within = record {
-    desk = record { same = own_desk; own = subst (IsPrefixOf p.desk.own) (sym own_is) (e ∷ [], refl); seen = own_grows };
-    made = made ∙ ap (λ (n : ℕ). n + 1) post.made ∙ sym (ap length own_is ∙ length-append p.desk.own (e ∷ []));
-    fetched = within;
-  }
-
   pub has_entered : crash_in held.actor held.seen ≡ None → HasEntered e p q
   has_entered none = record {
     before = held.seen;

@@ -1,4 +1,3 @@
-pub mod Lower
 pub mod Since
 pub mod Steps
 pub mod Holding

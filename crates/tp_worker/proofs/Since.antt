@@ -12,11 +12,12 @@ use Rattle.tp_base.proofs.SameNames.{same_name_refl}
 use Rattle.tp_base.specs.Lists.{Ascends, IsPrefixOf}
 use Rattle.tp_base.specs.Names.{same_name}
 use Rattle.tp_base.specs.declared.names.ActorName.{ActorName}
-use Rattle.tp_worker.proofs.Lower.{ascends_filter, found_before, is_before, late, first_none, lived, sent_ascends}
+use Rattle.tp_netbook.proofs.InboxRuns.{ascends_filter, is_before, sent_ascends}
 use Rattle.tp_netbook.specs.Inbox.{elsewhere, sent_to}
 use Rattle.tp_netbook.specs.Inbox.{entries_by as told_of}
 use Rattle.tp_rules.proofs.Journals.{acts_here, acts_other, sent_more}
 use Rattle.tp_rules.proofs.lists.Tallies.{filter_no, filter_yes}
+use Rattle.tp_rules.proofs.sent.Parcels.{found_before}
 use Rattle.tp_rules.specs.Acts.{Took}
 use Rattle.tp_rules.specs.Journal.{act_of, acts, is_live, numbered, output_at, sent, with_act}
 use Rattle.tp_rules.specs.Runs.{IsFor, IsRun, MayHappen}
@@ -25,8 +26,8 @@ use Rattle.tp_rules.specs.declared.event.Event.{Event}
 use Rattle.tp_rules.specs.declared.event.Event.TheVariants.{Deliver, Dropped, Inner as OfItself}
 use Rattle.tp_rules.specs.declared.event.Parcel.{Parcel}
 use Rattle.tp_script.specs.declared.script.Script.{Script}
-use Rattle.tp_shared.proofs.Addressed.{none_behind}
-use Rattle.tp_shared.proofs.Legality.{lives, may_later}
+use Rattle.tp_shared.proofs.Addressed.{none_behind, numbered_later}
+use Rattle.tp_shared.proofs.Legality.{first_none, lived, lives, may_later}
 use Rattle.tp_shared.proofs.Shown.{by_append, nothing_more}
 use Rattle.tp_shared.specs.Fetched.{is_for, parcels_for}
 use Rattle.tp_shared.specs.Histories.{MayFollow, crash_of, entries_by}
@@ -131,11 +132,6 @@ told_next a xs e is =
     ap (told_of a) (reverse_push xs e)
     ∙ filter_yes (λ (x : Entry). same_name x.actor a) e (reverse xs) (ap (λ (b : ActorName). same_name b a) is ∙ same_name_refl a)
 
-pub by_next : (a : ActorName) (xs : List Entry) (e : Entry) → e.actor ≡ a → entries_by a (xs ++ e ∷ []) ≡ entries_by a xs ++ e ∷ []
-by_next a xs e is =
-    by_append a xs (e ∷ [])
-    ∙ ap (λ (l : List Entry). entries_by a xs ++ l) (filter_yes (λ (x : Entry). same_name x.actor a) e [] (ap (λ (b : ActorName). same_name b a) is ∙ same_name_refl a))
-
 pub acts_next : (a : ActorName) (xs : List Entry) (e : Entry) → e.actor ≡ a → acts (reverse (xs ++ e ∷ [])) a ≡ with_act (act_of (reverse xs) e.event) (acts (reverse xs) a)
 acts_next a xs e is = subst (λ (b : ActorName). acts (reverse (xs ++ e ∷ [])) b ≡ with_act (act_of (reverse xs) e.event) (acts (reverse xs) b)) is (acts_here xs e)
 
@@ -163,7 +159,7 @@ fetched_more a xs more = snoc_ind Goes none next more
         let fetched : parcels_for a (length xs) (j ++ e ∷ []) ≡ parcels_for a (length xs) j ++ new =
         ap (filter (λ (p : Parcel). nat_lt (length xs) p.entry && is_for a p)) (sent_more j e)
         ∙ filter-append (λ (p : Parcel). nat_lt (length xs) p.entry && is_for a p) (sent (reverse j)) (numbered (suc (length j)) 1 e.outputs)
-        ∙ ap (λ (k : List Parcel). parcels_for a (length xs) j ++ k) (late a (length xs) (suc (length j)) 1 e.outputs behind) in
+        ∙ ap (λ (k : List Parcel). parcels_for a (length xs) j ++ k) (numbered_later a (length xs) (suc (length j)) 1 e.outputs behind) in
         let was_sent : sent_to a (reverse (j ++ e ∷ [])) ≡ sent_to a (reverse j) ++ new =
         ap (filter (is_for a)) (sent_more j e) ∙ filter-append (is_for a) (sent (reverse j)) (numbered (suc (length j)) 1 e.outputs) in
         let assoc : j ++ e ∷ [] ≡ xs ++ (l ++ e ∷ []) = append_assoc xs l (e ∷ []) in

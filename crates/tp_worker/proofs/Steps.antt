@@ -4,8 +4,7 @@ use Rattle.std.proofs.Common.{◌≡◌, ◌<◌, ℕ, Bool, true, false, cond, 
 use Rattle.tp_base.specs.Lists.{IsIn, IsPrefixOf}
 use Rattle.tp_base.specs.declared.names.ActorName.{ActorName}
 use Rattle.tp_base.specs.declared.names.ActorName.TheVariants.{Process, Executor, Session}
-use Rattle.tp_driver.proofs.Pendings.{pending_legal}
-use Rattle.tp_worker.proofs.Lower.{due_line, may_make, planned_may}
+use Rattle.tp_driver.proofs.Pendings.{due_line, pending_legal, planned_may}
 use Rattle.tp_netbook.specs.Inbox.{FollowsNext, HasNoneLeft, IsSentTo, MayBeDone, line_or_first, lives_yet, next_event, sent_to, waiting_among}
 use Rattle.tp_netbook.specs.Inbox.{entries_by as told_of}
 use Rattle.tp_netbook.specs.declared.inbox.Waiting.{Waiting}
@@ -80,17 +79,6 @@ module _ (script : Script) (accepted : IsAccepted script) (older : List Entry) (
       done (Dropped entry place) n = n
       done (OfItself inner) n = tt
 
-  -- a step of its own, where the inbox says nothing
-  offers_own : (a : ActorName) (inner : Inner) → enabled (identity_in script a) (acts older a) ≡ Some inner → (is_live older a ≡ true → HasNoneLeft script older a)
-      → MayOffer script older a (OfItself inner)
-  offers_own a inner is none =
-      let makes = may_make script accepted older history a inner is in record {
-        may = makes.0;
-        line = λ live. subst (λ (o : Option Inner). FollowsLine o (OfItself inner)) (sym (none live).line) makes.1;
-        fate = tt;
-        next = tt;
-      }
-
   -- and where it may make none, no step of the actor may come next
   none_pending : (a : ActorName) → enabled (identity_in script a) (acts older a) ≡ None → (is_live older a ≡ true → HasNoneLeft script older a)
       → (it : Item) → IsIn it (pending script older) → it.actor ≡ a → ⊥
@@ -136,10 +124,6 @@ module _ (script : Script) (accepted : IsAccepted script) (xs : List Entry) (run
   pub may_give : (event : Event) → next_event script a (sent_to a (reverse xs)) (told_of a (reverse xs)) ≡ Some event → FollowsNext script (reverse xs) a event
       → MayOffer script (reverse xs) a event
   may_give event is follows = offers_given script accepted (reverse xs) free a event is follows
-
-  pub may_own : (inner : Inner) → enabled (identity_in script a) (acts (reverse xs) a) ≡ Some inner → (is_live (reverse xs) a ≡ true → HasNoneLeft script (reverse xs) a)
-      → MayOffer script (reverse xs) a (OfItself inner)
-  may_own inner is none = offers_own script accepted (reverse xs) free a inner is none
 
   pub idle : enabled (identity_in script a) (acts (reverse xs) a) ≡ None → (is_live (reverse xs) a ≡ true → HasNoneLeft script (reverse xs) a)
       → (it : Item) → IsIn it (pending script (reverse xs)) → it.actor ≡ a → ⊥
