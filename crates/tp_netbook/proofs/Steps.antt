@@ -10,6 +10,7 @@ use Rattle.tp_base.proofs.Ends.{reverse_push, slice_get_left, slice_get_right}
 use Rattle.tp_base.proofs.Members.{get_in}
 use Rattle.tp_base.specs.Lists.{Each, IsIn}
 use Rattle.tp_base.specs.declared.names.ActorName.{ActorName}
+use Rattle.tp_netbook.proofs.Adding.{small_places}
 use Rattle.tp_netbook.proofs.Outputs.{olds_are, sent_few}
 use Rattle.tp_netbook.proofs.Listings.{lines_stay, turns_listed}
 use Rattle.tp_netbook.proofs.NewOutputs.{new_are}
@@ -24,6 +25,7 @@ use Rattle.tp_netbook.specs.Outputs.{loses, output_of, passed, starts_of}
 use Rattle.tp_netbook.specs.declared.netbook.Netbook.{Netbook}
 use Rattle.tp_netbook.specs.declared.output.Output.{Output}
 use Rattle.tp_rules.proofs.Histories.{free_history}
+use Rattle.tp_rules.proofs.ends.HowMany.{outputs_few}
 use Rattle.tp_rules.proofs.fit.InRange.{sent_known}
 use Rattle.tp_rules.proofs.sent.Parcels.{sent_within}
 use Rattle.tp_rules.specs.Journal.{acts, identity_in, is_known, is_live, numbered, sent}
@@ -246,7 +248,9 @@ module _ (script : Script) (journal : List Entry) (e : Entry) (b : Netbook) (is 
     numbers = ap (λ (n : ℕ). numbered n 1 e.outputs) (entries4 ∙ ap (λ (n : ℕ). suc n) (sym as_long))
 
     added_now : (b5.outputs.items ≡ b4.outputs.items ++ new_outputs script.plan (sent older) news) × AreCountsFor b4.fates (sent older ++ news) b5.routes
-    added_now = subst (λ (ps : List Parcel). Adds ps b4 b5) numbers adds script.plan (sent older) fates_now routes_now few
+    added_now =
+        subst (λ (ps : List Parcel). Adds ps b4 b5) numbers adds script.plan (sent older) fates_now routes_now few
+        (small_places (suc (length older)) 1 e.outputs (omega (arith, outputs_few script accepted.shape older e now.1)))
 
     passed_now : b4.outputs.items ≡ map (passed e.event) b.outputs.items
     passed_now = ap (λ outputs. outputs.items) (outputs4 ∙ outputs3 ∙ outputs2) ∙ outputs1

@@ -261,7 +261,11 @@ abbrev pub new_outputs : List PlanLine → List Parcel → List Parcel → List 
 new_outputs plan before [] = []
 new_outputs plan before (p ∷ ps) = added plan before p ∷ new_outputs plan (before ++ p ∷ []) ps
 
+-- the places of outputs fit into two bytes
+abbrev pub HavePlaces : List Parcel → Type 0
+HavePlaces ps = Each (λ p. p.place < 2 ^ 16) ps
+
 -- outputs are counted and added
 abbrev pub Adds : List Parcel → Netbook → Netbook → Type 0
 Adds ps old new = (plan : List PlanLine) (before : List Parcel) → AreFates plan old.fates → AreCountsFor old.fates before old.routes → length before + length ps < 2 ^ 128
-    → (new.outputs.items ≡ old.outputs.items ++ new_outputs plan before ps) × AreCountsFor old.fates (before ++ ps) new.routes
+    → HavePlaces ps → (new.outputs.items ≡ old.outputs.items ++ new_outputs plan before ps) × AreCountsFor old.fates (before ++ ps) new.routes

@@ -1,5 +1,5 @@
 -- What a netbook keeps of an output, where it stands among all, and what an event does to it.
-use Rattle.std.specs.Prelude.{ℕ, ◌≡◌, ◌+◌, ◌-◌, ◌==◌, ◌&&◌, not, Bool, true, false, cond, List, [], ◌∷◌, ◌++◌, Some, length, slice_get}
+use Rattle.std.specs.Prelude.{ℕ, ◌≡◌, ◌+◌, ◌-◌, ◌==◌, ◌&&◌, not, Bool, true, false, cond, min, List, [], ◌∷◌, ◌++◌, Some, length, slice_get}
 use Rattle.tp_base.specs.declared.names.ActorName.{ActorName}
 use Rattle.tp_netbook.specs.declared.output.Output.{Output}
 use Rattle.tp_rules.specs.Journal.{sent}
@@ -26,6 +26,10 @@ output_of script older p = record {
 -- one that was just sent
 abbrev pub new_output : ℕ → ℕ → ActorName → Fate → Output
 new_output entry place to fate = record { entry = entry; place = place; to = to; lost = loses fate; left = left_by fate 0 false }
+
+-- as it is kept in few bytes
+abbrev pub packed : Output → Output
+packed o = record { entry = o.entry; place = min o.place 65535; to = o.to; lost = o.lost; left = o.left }
 
 -- what may come next of it
 abbrev pub event_of : Output → Event

@@ -10,6 +10,7 @@ mod line;
 mod netbook;
 mod output;
 mod own_steps;
+mod packed;
 mod roster;
 mod route;
 mod watch;

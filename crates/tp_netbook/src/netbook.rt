@@ -2,7 +2,7 @@ ghost use Rattle.std.specs.Option.{option_copied};
 ghost use Rattle.std.specs.Prelude.{◌≡◌, ◌<◌, ◌+◌, ◌^◌, ◌++◌, ◌∷◌, [], true, ℕ, Bool, List, Some, length, map, reverse, slice_get, IfOk, OnOk};
 ghost use Rattle.tp_bits.specs.Bits.{AreBits};
 ghost use Rattle.tp_netbook.specs.Netbook.{Adds, AreCounted, AreNext, ArePlaced, AreReady, AreAllFree, AreReadyBut, AreWatches, IsFreeRight, IsNetbook, KeepsMarks, KeepsRest, Lists, Turns, TurnsByPlan, are_free, deliveries, due_items, home_of, is_alive, is_free, is_ready, is_undue, lines, marked, may_turn, own_item, own_items, watch_of};
-ghost use Rattle.tp_netbook.specs.Outputs.{passed};
+ghost use Rattle.tp_netbook.specs.Outputs.{packed, passed};
 ghost use Rattle.tp_rules.specs.Journal.{numbered};
 ghost use Rattle.tp_rules.specs.Pending.{pending, sites_of};
 ghost use Rattle.tp_rules.specs.Runs.{IsRun};
@@ -14,6 +14,7 @@ use crate::fate::Fates;
 use crate::line::lines_of;
 use crate::output::{Inbox, Output, place_in};
 use crate::own_steps::OwnSteps;
+use crate::packed::Packed;
 use crate::roster::{place_of_site, roster, sites_of};
 use crate::route::{Route, Routes};
 use crate::watch::Watch;
@@ -33,7 +34,7 @@ pub struct Netbook {
     roster: Vec<ActorName>,
     fates: Fates,
     routes: Routes,
-    outputs: Vec<Output>,
+    outputs: Vec<Packed>,
     starts: Vec<usize>,
     inboxes: Vec<Inbox>,
     ready: Bits,
@@ -171,7 +172,8 @@ impl Netbook {
         ensures { AreReady self.now → result ≡ slice_get (deliveries self.now) index }
     {
         let place = self.ready.select(index as u64)?;
-        let output = self.outputs.get(place)?;
+        let kept = self.outputs.get(place)?;
+        let output = kept.output();
         Some(Item {
             actor: output.to,
             event: output.event(),
@@ -282,7 +284,7 @@ impl Netbook {
         ensures inboxes { self.new.inboxes ≡ self.old.inboxes }
     {
         if place < self.outputs.len() {
-            let ready = self.is_ready(&self.outputs[place]);
+            let ready = self.is_ready(&self.outputs[place].output());
             self.ready.set(place, ready);
         }
     }
@@ -379,7 +381,7 @@ impl Netbook {
 
     /// Adds an output: to all of them, to its site's inbox, and whether it may be delivered or lost now.
     fn push(&mut self, output: Output) -> Result<(), NoMemory>
-        ensures outputs { OnOk result (self.new.outputs.items ≡ self.old.outputs.items ++ output ∷ []) }
+        ensures outputs { OnOk result (self.new.outputs.items ≡ self.old.outputs.items ++ packed output ∷ []) }
         ensures marks { OnOk result (KeepsMarks self.old self.new) }
         ensures rest { OnOk result (KeepsRest self.old self.new) }
         ensures routes { OnOk result (self.new.routes ≡ self.old.routes) }
@@ -388,7 +390,7 @@ impl Netbook {
         self.ready.push(ready)?;
         let place = self.outputs.len();
         let home = self.listed_at(output.to);
-        self.outputs.push(output)?;
+        self.outputs.push(Packed::new(output))?;
         list(&mut self.inboxes, home, place)?;
         Ok(())
     }

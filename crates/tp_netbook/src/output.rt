@@ -57,7 +57,7 @@ impl Output {
     }
 
     /// Whether an event delivers it, or loses it.
-    fn is_named(&self, event: Event) -> bool
+    pub fn is_named(&self, event: Event) -> bool
         ensures { result ≡ is_named event self.now }
     {
         match event {
