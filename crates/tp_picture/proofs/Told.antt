@@ -11,7 +11,7 @@ use Rattle.tp_base.specs.declared.names.CommandId.{CommandId}
 use Rattle.tp_journal.specs.Entered.{output_in}
 use Rattle.tp_picture.specs.About.{is_chosen_message}
 use Rattle.tp_picture.specs.Laws.{HasArrows, HasCrosses, HasDots, HasLosses, arrowed, crossed, delivered, dotted, is_loss, joins, loses, lost, of_entry, strayed}
-use Rattle.tp_picture.specs.Scenes.{Scene, column, is_shown, place, row, row_end, row_where, scene_of}
+use Rattle.tp_picture.specs.Scenes.{Scene, column, is_shown, place, row, row_end, row_where, scene_of, width}
 use Rattle.tp_picture.specs.Shapes.{actor_row, arrows, dots, dots_at, entry_arrows, entry_dots, event_arrows, first_in, firsts, joined, line_before, marks, message_shapes, rows, shapes}
 use Rattle.tp_picture.specs.Signs.{sign_of, sign_of_event}
 use Rattle.tp_picture.specs.declared.place.Place.{Place}
@@ -64,13 +64,13 @@ untold {X} tell x xs none = ap (λ (o : Option X). cons_option o (filter_map tel
 
 -- ---- rows, and marks of which nothing is told
 
-rows_untold : {X : Type 0} (tell : Shape → Option X) → ((r : ℕ) (a : ActorName) (end : ℕ) → tell (Row r a end) ≡ None) → (scene : Scene)
+rows_untold : {X : Type 0} (tell : Shape → Option X) → ((r : ℕ) (a : ActorName) (end columns : ℕ) → tell (Row r a end columns) ≡ None) → (scene : Scene)
     → filter_map tell (rows scene) ≡ []
 rows_untold tell none scene = none_flat tell (λ r. actor_row scene r (nth scene.rows r)) (λ r. by r (nth scene.rows r)) (up_to (length scene.rows))
   where
     by : (r : ℕ) (o : Option ActorName) → filter_map tell (actor_row scene r o) ≡ []
     by r None = refl
-    by r (Some a) = untold tell (Row r a (row_end scene a)) [] (none r a (row_end scene a))
+    by r (Some a) = untold tell (Row r a (row_end scene a) (width scene)) [] (none r a (row_end scene a) (width scene))
 
 firsts_untold : {X : Type 0} (tell : Shape → Option X) → ((id : CommandId) (at : Place) → tell (First id at) ≡ None) → (scene : Scene) (first : Option CommandId) (at : Place)
     → filter_map tell (firsts scene first at) ≡ []
@@ -241,7 +241,7 @@ dots_law script journal view =
     let scene : Scene = scene_of script journal view in
     let ns : List ℕ = up_to (length journal) in
     parts dotted (rows scene) (arrows scene) (dots scene) [] [] (filter_map (λ n. cond (is_shown scene n) (Some n) None) ns)
-    (rows_untold dotted (λ r a end. refl) scene)
+    (rows_untold dotted (λ r a end columns. refl) scene)
     (arrows_untold dotted (λ sign from to. refl) (λ sign from to. refl) scene)
     (one_flat dotted (λ n. entry_dots scene n (nth journal n)) (λ n. cond (is_shown scene n) (Some n) None) (λ n. entry_dotted scene n (nth journal n) refl) ns)
     ∙ passing (is_shown scene) ns
@@ -252,7 +252,7 @@ crosses_law script journal view =
     let scene : Scene = scene_of script journal view in
     let ns : List ℕ = up_to (length journal) in
     parts crossed (rows scene) (arrows scene) (dots scene) [] [] (filter_map (λ n. cond (is_shown scene n && loses (nth journal n)) (Some n) None) ns)
-    (rows_untold crossed (λ r a end. refl) scene)
+    (rows_untold crossed (λ r a end columns. refl) scene)
     (arrows_untold crossed (λ sign from to. refl) (λ sign from to. refl) scene)
     (one_flat crossed (λ n. entry_dots scene n (nth journal n)) (λ n. cond (is_shown scene n && loses (nth journal n)) (Some n) None)
     (λ n. entry_crossed scene n (nth journal n) refl) ns)
@@ -283,7 +283,7 @@ arrows_law script journal view =
     let scene : Scene = scene_of script journal view in
     let ns : List ℕ = up_to (length journal) in
     parts arrowed (rows scene) (arrows scene) (dots scene) [] (filter_map (λ n. of_entry (delivered scene n) (nth journal n)) ns) []
-    (rows_untold arrowed (λ r a end. refl) scene)
+    (rows_untold arrowed (λ r a end columns. refl) scene)
     (one_flat arrowed (λ n. entry_arrows scene n (nth journal n)) (λ n. of_entry (delivered scene n) (nth journal n)) (λ n. entry_arrowed scene n (nth journal n)) ns)
     (dots_untold arrowed (λ a sign at. refl) (λ at. refl) (λ at. refl) (λ id at. refl) scene)
     ∙ append-nil (filter_map (λ n. of_entry (delivered scene n) (nth journal n)) ns)
@@ -294,7 +294,7 @@ losses_law script journal view =
     let scene : Scene = scene_of script journal view in
     let ns : List ℕ = up_to (length journal) in
     parts strayed (rows scene) (arrows scene) (dots scene) [] (filter_map (λ n. of_entry (lost scene n) (nth journal n)) ns) []
-    (rows_untold strayed (λ r a end. refl) scene)
+    (rows_untold strayed (λ r a end columns. refl) scene)
     (one_flat strayed (λ n. entry_arrows scene n (nth journal n)) (λ n. of_entry (lost scene n) (nth journal n)) (λ n. entry_strayed scene n (nth journal n)) ns)
     (dots_untold strayed (λ a sign at. refl) (λ at. refl) (λ at. refl) (λ id at. refl) scene)
     ∙ append-nil (filter_map (λ n. of_entry (lost scene n) (nth journal n)) ns)

@@ -25,7 +25,7 @@ GrowsFrom scene = (m n : ℕ) → is_shown scene m ≡ true → 1 ≤ m → m < 
 abbrev pub dotted : Shape → Option ℕ
 dotted (Frame columns rows) = None
 dotted (Legend rows) = None
-dotted (Row r actor end) = None
+dotted (Row r actor end columns) = None
 dotted (Arrow sign from to) = None
 dotted (Lost sign from to) = None
 dotted (Dot actor sign at) = Some at.entry
@@ -36,7 +36,7 @@ dotted (First id at) = None
 abbrev pub crossed : Shape → Option ℕ
 crossed (Frame columns rows) = None
 crossed (Legend rows) = None
-crossed (Row r actor end) = None
+crossed (Row r actor end columns) = None
 crossed (Arrow sign from to) = None
 crossed (Lost sign from to) = None
 crossed (Dot actor sign at) = None
@@ -47,7 +47,7 @@ crossed (First id at) = None
 abbrev pub arrowed : Shape → Option (ℕ × ℕ)
 arrowed (Frame columns rows) = None
 arrowed (Legend rows) = None
-arrowed (Row r actor end) = None
+arrowed (Row r actor end columns) = None
 arrowed (Arrow sign from to) = Some (from.entry, to.entry)
 arrowed (Lost sign from to) = None
 arrowed (Dot actor sign at) = None
@@ -58,7 +58,7 @@ arrowed (First id at) = None
 abbrev pub strayed : Shape → Option (ℕ × ℕ)
 strayed (Frame columns rows) = None
 strayed (Legend rows) = None
-strayed (Row r actor end) = None
+strayed (Row r actor end columns) = None
 strayed (Arrow sign from to) = None
 strayed (Lost sign from to) = Some (from.entry, to.entry)
 strayed (Dot actor sign at) = None

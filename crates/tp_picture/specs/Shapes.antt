@@ -29,7 +29,7 @@ use Rattle.tp_wire.specs.declared.message.Message.{Message}
 
 abbrev pub actor_row : Scene → ℕ → Option ActorName → List Shape
 actor_row scene r None = []
-actor_row scene r (Some a) = Row r a (row_end scene a) ∷ []
+actor_row scene r (Some a) = Row r a (row_end scene a) (width scene) ∷ []
 
 abbrev pub rows : Scene → List Shape
 rows scene = flat_map (λ r. actor_row scene r (nth scene.rows r)) (up_to (length scene.rows))

@@ -25,6 +25,7 @@ fn put_row(
         row,
         actor,
         end: scene.row_end(actor),
+        columns: scene.width(),
     })?;
     Ok(())
 }

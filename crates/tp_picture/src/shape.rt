@@ -14,11 +14,12 @@ pub enum Shape {
     Legend {
         rows: usize,
     },
-    /// An actor's row, up to the column where it ends.
+    /// An actor's row, up to the column where it ends, with its name also behind the picture's columns.
     Row {
         row: usize,
         actor: ActorName,
         end: usize,
+        columns: usize,
     },
     /// A delivery, from the entry that sent the message to the one that delivers it.
     Arrow {

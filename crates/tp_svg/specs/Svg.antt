@@ -126,10 +126,10 @@ abbrev pub row_line : ℕ → ℕ → List ℕ
 row_line r end =
     codes "<line class='row' x1='76'" ++ quoted (codes " y1='") (y r) ++ quoted (codes " x2='") (x end) ++ quoted (codes " y2='") (y r) ++ codes "/>"
 
--- a row's line, with the actor's name at both ends
-abbrev pub row_text : ℕ → ActorName → ℕ → List ℕ
-row_text r actor end =
-    row_line r end ++ name (codes "<text class='name'") 68 (y r + 4) actor ++ name (codes "<text") (x end + 12) (y r + 4) actor
+-- a row's line, with the actor's name before it and behind all columns
+abbrev pub row_text : ℕ → ActorName → ℕ → ℕ → List ℕ
+row_text r actor end columns =
+    row_line r end ++ name (codes "<text class='name'") 68 (y r + 4) actor ++ name (codes "<text") (x columns + 12) (y r + 4) actor
 
 -- a line from a dot up to its label
 abbrev pub guide_text : Place → List ℕ
@@ -225,7 +225,7 @@ end_mark at = mark (codes "end") (codes "M0 -11V11") at
 abbrev pub shape_body : Shape → List ℕ
 shape_body (Frame columns rows) = frame_text columns rows
 shape_body (Legend rows) = legend_text rows
-shape_body (Row r actor end) = row_text r actor end
+shape_body (Row r actor end columns) = row_text r actor end columns
 shape_body (Arrow sign from to) = curve (codes "arrow " ++ class_word sign.kind) from to
 shape_body (Lost sign from to) = curve (codes "lost " ++ class_word sign.kind) from to
 shape_body (Dot actor sign at) = dot_text actor sign at

@@ -100,17 +100,18 @@ fn put_row_line(out: &mut Put, row: usize, end: usize) -> Result<(), NoMemory>
     Ok(())
 }
 
-/// A row's line, with the actor's name at both ends.
+/// A row's line, with the actor's name before it and behind all columns.
 pub(crate) fn put_row(
     out: &mut Put,
     row: usize,
     actor: ActorName,
     end: usize,
+    columns: usize,
 ) -> Result<(), NoMemory>
-    ensures { OnOk result (out.new ≡ out.old ++ row_text row actor end) }
+    ensures { OnOk result (out.new ≡ out.old ++ row_text row actor end columns) }
 {
     let level = y(row) + 4;
-    let behind = x(end) + 12;
+    let behind = x(columns) + 12;
     put_row_line(out, row, end)?;
     put_name(out, b"<text class='name'", 68, level, actor)?;
     put_name(out, b"<text", behind, level, actor)?;

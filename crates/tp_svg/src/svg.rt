@@ -15,7 +15,12 @@ fn put_body(out: &mut Put, shape: Shape) -> Result<(), NoMemory>
     match shape {
         Shape::Frame { columns, rows } => put_frame(out, columns, rows),
         Shape::Legend { rows } => put_legend(out, rows),
-        Shape::Row { row, actor, end } => put_row(out, row, actor, end),
+        Shape::Row {
+            row,
+            actor,
+            end,
+            columns,
+        } => put_row(out, row, actor, end, columns),
         Shape::Arrow { sign, from, to } => {
             put_curve(out, b"arrow ", class_word(sign.kind), from, to)
         }
