@@ -13,9 +13,9 @@ use crate::view::view_of;
 use std::alloc::Global;
 use tp_base::{Bytes, NoMemory};
 use tp_journal::Journal;
-use tp_outside::{Sink, Source, WriteFault, write_all};
+use tp_outside::{Sink, Source};
 use tp_picture::{View, shapes};
-use tp_run::{Cause, Finished, Given, read_to_check};
+use tp_run::{Cause, Finished, Given, finish, read_to_check, refused, without_cause};
 use tp_script::Script;
 use tp_svg::print_picture;
 
@@ -70,21 +70,6 @@ pub fn tempo_draw<S: Source, K: Sink>(
     }
 }
 
-// There is no script.
-fn refused(alloc: Global, cause: Cause) -> Finished
-    ensures status { IsStatusOf result.cause result.status }
-    ensures cause { result.cause ≡ Some cause }
-    ensures script { result.script ≡ None }
-    ensures journal { result.journal ≡ [] }
-{
-    Finished {
-        status: cause.status(),
-        cause: Some(cause),
-        script: None,
-        journal: Journal::new(alloc),
-    }
-}
-
 // Draws a journal, and writes the picture.
 fn draw<K: Sink>(alloc: Global, view: &View, given: Given, out: &mut K) -> Finished
     requires accepted { IsAccepted given.script }
@@ -96,20 +81,8 @@ fn draw<K: Sink>(alloc: Global, view: &View, given: Given, out: &mut K) -> Finis
     ensures fault { IsFaultOf Cause.Write (K.faults out.old) (K.faults out.new) result.cause }
 {
     let Given { script, journal } = given;
-    let cause = match picture(alloc, &script, &journal, view) {
-        Ok(bytes) => write(&bytes, out),
-        Err(_) => Some(Cause::Memory),
-    };
-    let status = match &cause {
-        None => 0,
-        Some(cause) => cause.status(),
-    };
-    Finished {
-        status,
-        cause,
-        script: Some(script),
-        journal,
-    }
+    let answer = without_cause(picture(alloc, &script, &journal, view));
+    finish(script, journal, answer, out)
 }
 
 // The text of the picture of a journal.
@@ -124,17 +97,4 @@ fn picture(
 {
     let shapes = shapes(alloc, script, journal, view)?;
     print_picture(alloc, shapes.as_slice())
-}
-
-// Writes the whole output, and gives the cause if that failed.
-fn write<K: Sink>(output: &Bytes, out: &mut K) -> Option<Cause>
-    ensures all { ((result ≡ None) × Appends (K.written out.old) (K.written out.new) output.now) ⊎ (result ≡ Some Cause.Write) ⊎ (result ≡ Some Cause.Memory) }
-    ensures front { AppendsFront (K.written out.old) (K.written out.new) output.now }
-    ensures fault { IsFaultOf Cause.Write (K.faults out.old) (K.faults out.new) result }
-{
-    match write_all(out, output.as_slice()) {
-        Ok(()) => None,
-        Err(WriteFault::Failed) => Some(Cause::Write),
-        Err(WriteFault::NoMemory) => Some(Cause::Memory),
-    }
 }

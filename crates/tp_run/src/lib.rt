@@ -16,6 +16,7 @@ pub use call::Call;
 pub use finished::{Cause, Finished};
 pub use plain::tempo_plain;
 pub use reading::{Given, read_to_check};
+pub use serving::{Answer, finish, refused, without_cause};
 pub use text::INPUT_LIMIT;
 pub use threaded::tempo_run;
 pub use top::tempo;

@@ -10,7 +10,7 @@ use tp_journal::Journal;
 use tp_outside::{Sink, WriteFault, write_all};
 use tp_script::Script;
 
-/// There is no script.
+/// The answer where there is no script.
 pub fn refused(alloc: Global, cause: Cause) -> Finished
     ensures status { IsStatusOf result.cause result.status }
     ensures cause { result.cause ≡ Some cause }
