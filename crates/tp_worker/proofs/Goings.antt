@@ -21,7 +21,6 @@ pub table_then : (j k : Known) → HasGrown j k → k.table ≡ j.table
 table_then j k h = ap (λ (m : Known). m.table) h.same
 
 module _ {A : Type 0} (identity_of : A → Identity) where
-
   pub goes_then : (u v w : Worker A) → GoesOn identity_of u v → GoesOn identity_of v w → GoesOn identity_of u w
   goes_then u v w h i = record {
     identity = i.identity ∙ h.identity;
@@ -48,7 +47,6 @@ place_each P (x ∷ xs) each zero d lt = each.0
 place_each P (x ∷ xs) each (suc i) d lt = place_each P xs each.1 i d (omega (arith, lt))
 
 module _ {A : Type 0} (identity_of : A → Identity) where
-
   pub all_then : (us vs ws : List (Worker A)) → AllGoOn identity_of us vs → AllGoOn identity_of vs ws → AllGoOn identity_of us ws
   all_then us vs ws h k = (
     k.0 ∙ h.0,
