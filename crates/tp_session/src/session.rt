@@ -213,7 +213,7 @@ impl Session {
         else {
             return Ok(());
         };
-        if self.topology.has_partition(*partition) {
+        if 1 <= partition.0 && partition.0 <= self.topology.partitions() {
             return self.receive(*id, *partition, answers);
         }
         Ok(())
