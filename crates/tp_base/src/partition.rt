@@ -9,10 +9,9 @@ pub fn partition_of(key: &[u8], partitions: u8) -> PartitionId
     requires few { partitions ≤ 4 }
     ensures { result.0 ≡ partition_number key.now partitions }
 {
-    let count = u16::from(partitions);
-    let mut rest = 0u16;
+    let mut total = 0u128;
     for byte in key {
-        rest = (rest + u16::from(*byte)) % count;
+        total += u128::from(*byte);
     }
-    PartitionId(rest as u8 + 1)
+    PartitionId((total % u128::from(partitions)) as u8 + 1)
 }

@@ -1,9 +1,7 @@
 ghost use Rattle.std.specs.Prelude.{◌≡◌, [], ◌∷◌, ◌++◌, ◌≤◌, ◌<◌, ◌^◌, ◌↔◌, length, slice_get, IfOk, OnOk, OnErr, IsNone, IsTrue};
 ghost use Rattle.std.specs.Option.{option_copied};
 
-use crate::names::{
-    CommandId, Key, Made, NoMemory, Pair, PartitionId, Rank, SessionId, Site, Stamp,
-};
+use crate::names::NoMemory;
 use std::alloc::Global;
 use std::marker::Model;
 
@@ -104,42 +102,6 @@ impl<T: Duplicate> Duplicate for Sequence<T> {
 }
 
 impl Duplicate for u8 {
-    fn copy(&self) -> Result<Self, NoMemory> {
-        Ok(*self)
-    }
-}
-
-impl Duplicate for u32 {
-    fn copy(&self) -> Result<Self, NoMemory> {
-        Ok(*self)
-    }
-}
-
-impl Duplicate for Rank {
-    fn copy(&self) -> Result<Self, NoMemory> {
-        Ok(*self)
-    }
-}
-
-impl Duplicate for Stamp {
-    fn copy(&self) -> Result<Self, NoMemory> {
-        Ok(*self)
-    }
-}
-
-impl Duplicate for CommandId {
-    fn copy(&self) -> Result<Self, NoMemory> {
-        Ok(*self)
-    }
-}
-
-impl Duplicate for Site {
-    fn copy(&self) -> Result<Self, NoMemory> {
-        Ok(*self)
-    }
-}
-
-impl Duplicate for Pair {
     fn copy(&self) -> Result<Self, NoMemory> {
         Ok(*self)
     }

@@ -45,24 +45,6 @@ impl Op {
     }
 }
 
-impl Duplicate for Op {
-    fn copy(&self) -> Result<Self, NoMemory> {
-        match self {
-            Op::Get { key } => Ok(Op::Get { key: key.copy()? }),
-            Op::Put { key, value } => Ok(Op::Put {
-                key: key.copy()?,
-                value: value.copy()?,
-            }),
-            Op::Del { key } => Ok(Op::Del { key: key.copy()? }),
-            Op::Cas { key, old, new } => Ok(Op::Cas {
-                key: key.copy()?,
-                old: old.copy()?,
-                new: new.copy()?,
-            }),
-        }
-    }
-}
-
 impl Duplicate for Answer {
     fn copy(&self) -> Result<Self, NoMemory> {
         match self {

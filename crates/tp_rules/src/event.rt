@@ -1,4 +1,4 @@
-use tp_base::{ActorName, CommandId, Duplicate, NoMemory, Sequence};
+use tp_base::{ActorName, CommandId, Sequence};
 use tp_wire::Message;
 
 /// What an actor does by itself.
@@ -59,24 +59,4 @@ pub type Parcels = Sequence<Parcel>;
 pub struct Item {
     pub actor: ActorName,
     pub event: Event,
-}
-
-impl Duplicate for Entry {
-    fn copy(&self) -> Result<Self, NoMemory> {
-        Ok(Entry {
-            actor: self.actor,
-            event: self.event,
-            outputs: self.outputs.copy()?,
-        })
-    }
-}
-
-impl Duplicate for Parcel {
-    fn copy(&self) -> Result<Self, NoMemory> {
-        Ok(Parcel {
-            entry: self.entry,
-            place: self.place,
-            message: self.message.copy()?,
-        })
-    }
 }
