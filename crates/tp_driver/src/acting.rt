@@ -25,8 +25,10 @@ pub fn act<A: Actor>(
     requires run { IsRun script.now earlier.now }
     requires cast { AllStand A.identity_of A.is_spent A.stands script.now actors.old earlier.now }
     requires may { MayCome script.now earlier.now item }
-    ensures outputs { IfOk result (λ outputs. outputs ≡ outputs_in script.now (reverse earlier.now) item.actor item.event) }
-    ensures cast { OnOk result ((e : EntryValue) → e.actor ≡ item.actor → e.event ≡ item.event → AllStand A.identity_of A.is_spent A.stands script.now actors.new (earlier.now ++ e ∷ [])) }
+    ensures outputs { IfOk result
+        (λ outputs. outputs ≡ outputs_in script.now (reverse earlier.now) item.actor item.event) }
+    ensures cast { OnOk result ((e : EntryValue) → e.actor ≡ item.actor → e.event ≡ item.event
+        → AllStand A.identity_of A.is_spent A.stands script.now actors.new (earlier.now ++ e ∷ [])) }
 {
     match item.event {
         Event::Deliver { entry, place } => deliver(
@@ -51,8 +53,10 @@ fn deliver<A: Actor>(
     requires run { IsRun script.now earlier.now }
     requires cast { AllStand A.identity_of A.is_spent A.stands script.now actors.old earlier.now }
     requires may { MayCome script.now earlier.now (record { actor = to; event = Deliver entry place }) }
-    ensures outputs { IfOk result (λ outputs. outputs ≡ outputs_in script.now (reverse earlier.now) to (Deliver entry place)) }
-    ensures cast { OnOk result ((e : EntryValue) → e.actor ≡ to → e.event ≡ Deliver entry place → AllStand A.identity_of A.is_spent A.stands script.now actors.new (earlier.now ++ e ∷ [])) }
+    ensures outputs { IfOk result
+        (λ outputs. outputs ≡ outputs_in script.now (reverse earlier.now) to (Deliver entry place)) }
+    ensures cast { OnOk result ((e : EntryValue) → e.actor ≡ to → e.event ≡ Deliver entry place
+        → AllStand A.identity_of A.is_spent A.stands script.now actors.new (earlier.now ++ e ∷ [])) }
 {
     let Some(message) = output(earlier, entry, place) else {
         return Ok(Outputs::new(alloc));
@@ -76,8 +80,10 @@ fn fire<A: Actor>(
     requires run { IsRun script.now earlier.now }
     requires cast { AllStand A.identity_of A.is_spent A.stands script.now actors.old earlier.now }
     requires may { MayCome script.now earlier.now (record { actor = name; event = OfItself inner }) }
-    ensures outputs { IfOk result (λ outputs. outputs ≡ outputs_in script.now (reverse earlier.now) name (OfItself inner)) }
-    ensures cast { OnOk result ((e : EntryValue) → e.actor ≡ name → e.event ≡ OfItself inner → AllStand A.identity_of A.is_spent A.stands script.now actors.new (earlier.now ++ e ∷ [])) }
+    ensures outputs { IfOk result
+        (λ outputs. outputs ≡ outputs_in script.now (reverse earlier.now) name (OfItself inner)) }
+    ensures cast { OnOk result ((e : EntryValue) → e.actor ≡ name → e.event ≡ OfItself inner
+        → AllStand A.identity_of A.is_spent A.stands script.now actors.new (earlier.now ++ e ∷ [])) }
 {
     let home = place_of(script, name);
     prove!(home < actors.len());

@@ -42,7 +42,8 @@ pub fn drive<A: Actor>(
 
 // The step of its own that each actor may make.
 fn next_steps<A: Actor>(alloc: Global, actors: &[A]) -> Result<Vec<Option<Inner>>, NoMemory>
-    ensures { IfOk result (λ next. (script : ScriptValue) (journal : List EntryValue) → AllStand A.identity_of A.is_spent A.stands script actors.now journal → AreNext script journal next.items) }
+    ensures { IfOk result (λ next. (script : ScriptValue) (journal : List EntryValue)
+        → AllStand A.identity_of A.is_spent A.stands script actors.now journal → AreNext script journal next.items) }
 {
     let mut next = Vec::new(alloc);
     for actor in actors {
@@ -69,7 +70,8 @@ fn turn<A: Actor>(
     ensures netbook { OnOk result (IsNetbook script.now journal.new netbook.new) }
     ensures cast { OnOk result (AllStand A.identity_of A.is_spent A.stands script.now actors.new journal.new) }
     ensures next { OnOk result (AreNext script.now journal.new next.new) }
-    ensures falls { IfOk result (λ went. IsTrue went → left script.now (reverse journal.new) < left script.now (reverse journal.old)) }
+    ensures falls { IfOk result (λ went. IsTrue went
+        → left script.now (reverse journal.new) < left script.now (reverse journal.old)) }
     ensures quiet { IfOk result (λ went. went ≡ false → IsQuiet script.now journal.new) }
 {
     let Some(item) = choose(script, journal, netbook, next) else {
@@ -101,8 +103,10 @@ fn act_after<A: Actor>(
     requires run { IsRun script.now journal.now }
     requires cast { AllStand A.identity_of A.is_spent A.stands script.now actors.old journal.now }
     requires may { MayCome script.now journal.now item }
-    ensures outputs { IfOk result (λ outputs. outputs ≡ outputs_in script.now (reverse journal.now) item.actor item.event) }
-    ensures cast { OnOk result ((e : EntryValue) → e.actor ≡ item.actor → e.event ≡ item.event → AllStand A.identity_of A.is_spent A.stands script.now actors.new (journal.now ++ e ∷ [])) }
+    ensures outputs { IfOk result
+        (λ outputs. outputs ≡ outputs_in script.now (reverse journal.now) item.actor item.event) }
+    ensures cast { OnOk result ((e : EntryValue) → e.actor ≡ item.actor → e.event ≡ item.event
+        → AllStand A.identity_of A.is_spent A.stands script.now actors.new (journal.now ++ e ∷ [])) }
 {
     act(alloc, script, journal.entries().as_slice(), actors, item)
 }

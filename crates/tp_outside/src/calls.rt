@@ -26,7 +26,8 @@ impl Calls {
     pub fn next_fails(&mut self) -> bool
         ensures fails { IsTrue result ↔ Contains self.old.failing (raised self.old.made) }
         ensures later { self.old.faults ≤ self.new.faults }
-        ensures failed { IsTrue result → self.new ≡ record self.old { made = raised self.old.made; faults = raised self.old.faults } }
+        ensures failed { IsTrue result
+            → self.new ≡ record self.old { made = raised self.old.made; faults = raised self.old.faults } }
         ensures passed { ¬ IsTrue result → self.new ≡ record self.old { made = raised self.old.made } }
     {
         self.made = self.made.saturating_add(1);

@@ -132,7 +132,8 @@ impl Sink for MemorySink {
         ensures fails { IsErrOf result WriteFault.Failed ↔ Contains self.old.failing (raised self.old.calls) }
         ensures failed { IsErrOf result WriteFault.Failed → self.new
             ≡ record self.old { calls = raised self.old.calls; faults = raised self.old.faults } }
-        ensures memory { IsErrOf result WriteFault.NoMemory → self.new ≡ record self.old { calls = raised self.old.calls } }
+        ensures memory { IsErrOf result WriteFault.NoMemory
+            → self.new ≡ record self.old { calls = raised self.old.calls } }
 
         // It takes as much as one piece, where there is memory.
         ensures count { IfOk result (λ n. n ≡ min (length bytes.now) self.old.piece) }

@@ -35,7 +35,8 @@ pub fn read_to_limit<S: Source>(
     ensures taken { TakesAtMost limit (S.left source.old) (S.left source.new) }
 
     // A read fails only where fewer bytes than the limit were taken.
-    ensures below { IfErr result (λ error. error ≡ ReadError.Failed → TakesFewer limit (S.left source.old) (S.left source.new)) }
+    ensures below { IfErr result (λ error. error ≡ ReadError.Failed
+        → TakesFewer limit (S.left source.old) (S.left source.new)) }
     ensures cause { HasCause (S.faults source.old) (S.faults source.new) result ReadError.Failed }
 {
     let mut bytes = Vec::new(alloc);

@@ -79,8 +79,8 @@ fn note_result<'a>(
     }
 }
 
-/// Notes the answers that an entry's event delivers, where it delivers some. The entries before it
-/// are given.
+/// Notes the answers that an entry's event delivers to a session, where it delivers some. The entries
+/// before it are given.
 pub fn note_delivery<'a>(
     results: &mut Results<'a>,
     before: &'a [Entry],
@@ -89,11 +89,13 @@ pub fn note_delivery<'a>(
     ensures { OnOk result (AreFirst (reverse before.now) results.old
         → AreFirst (entry.now ∷ reverse before.now) results.new) }
 {
-    match entry.event {
-        Event::Deliver { entry: from, place } => match output(before, from, place) {
-            Some(message) => note_result(results, entry.actor, message),
-            None => Ok(()),
-        },
+    match (entry.actor, entry.event) {
+        (ActorName::Session(_), Event::Deliver { entry: from, place }) => {
+            let Some(message) = output(before, from, place) else {
+                return Ok(());
+            };
+            note_result(results, entry.actor, message)
+        }
         _ => Ok(()),
     }
 }

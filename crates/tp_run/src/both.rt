@@ -49,7 +49,8 @@ fn read_whole(alloc: Global, text: &[u8]) -> Result<(Script, Entries), Cause>
 // The journal behind a script that was read.
 fn read_behind(alloc: Global, script: Script, lines: &mut Lines) -> Result<(Script, Entries), Cause>
     requires counted { lines.old.count ≡ length (script_lines script) }
-    ensures exact { ReadsBoth result (journal_to_end script (journal_at (length (script_lines script) + 1) (lines_of lines.old.left))) }
+    ensures exact { ReadsBoth result
+        (journal_to_end script (journal_at (length (script_lines script) + 1) (lines_of lines.old.left))) }
     ensures script { IfOk result (λ both. both.0 ≡ script) }
     ensures journal { IfOk result (λ both. IsJournal both.1) }
     ensures whole { IfOk result (λ both. lines.old.left ≡ text_of both.1) }

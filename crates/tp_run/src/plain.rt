@@ -32,15 +32,20 @@ pub fn tempo_plain<S: Source, K: Sink>(
     out: &mut K,
 ) -> Finished
     ensures status { IsStatusOf result.cause result.status }
-    ensures read { IsRead (plain (call_of words.now)) (S.left input.old) (S.left input.new) (S.ended input.new) (S.faults input.old) (S.faults input.new) result }
+    ensures read { IsRead (plain (call_of words.now)) (S.left input.old) (S.left input.new) (S.ended input.new)
+        (S.faults input.old) (S.faults input.new) result }
     ensures kept { IsKept (plain (call_of words.now)) result }
-    ensures written { IsWritten (plain (call_of words.now)) (K.written out.old) (K.written out.new) (K.faults out.old) (K.faults out.new) result }
+    ensures written { IsWritten (plain (call_of words.now)) (K.written out.old) (K.written out.new) (K.faults out.old)
+        (K.faults out.new) result }
 
     // Where no count of faults rose, the answer is the call's own, but for want of memory: an input is refused for its
     // cause alone, the text of each accepted script is run, each text of a script and a journal is
     // checked, and each number is served.
-    ensures exact { ¬ Rose (S.faults input.old) (S.faults input.new) → ¬ Rose (K.faults out.old) (K.faults out.new) → IsDue (plain (call_of words.now)) (S.left input.old) result.cause ⊎ (result.cause ≡ Some Cause.Memory) }
-    ensures complete { IsInputFor (plain (call_of words.now)) (S.left input.old) → ¬ Rose (S.faults input.old) (S.faults input.new) → ¬ Rose (K.faults out.old) (K.faults out.new) → IsServed (plain (call_of words.now)) result.cause ⊎ (result.cause ≡ Some Cause.Memory) }
+    ensures exact { ¬ Rose (S.faults input.old) (S.faults input.new) → ¬ Rose (K.faults out.old) (K.faults out.new)
+        → IsDue (plain (call_of words.now)) (S.left input.old) result.cause ⊎ (result.cause ≡ Some Cause.Memory) }
+    ensures complete { IsInputFor (plain (call_of words.now)) (S.left input.old)
+        → ¬ Rose (S.faults input.old) (S.faults input.new) → ¬ Rose (K.faults out.old) (K.faults out.new)
+        → IsServed (plain (call_of words.now)) result.cause ⊎ (result.cause ≡ Some Cause.Memory) }
 {
     let Some(call) = plain_call(words) else {
         return refused(alloc, Cause::Words);
@@ -90,7 +95,8 @@ fn respond(
 // What a check finds of a journal.
 fn checked(alloc: Global, script: &Script, journal: &Entries) -> Result<Answer, NoMemory>
     requires accepted { IsAccepted script.now }
-    ensures right { IfOk result (λ answer. IsAnswer (Some Call.Check) script.now journal.now answer.cause answer.output) }
+    ensures right { IfOk result
+        (λ answer. IsAnswer (Some Call.Check) script.now journal.now answer.cause answer.output) }
     ensures unfailed { IfOk result (λ answer. answer.cause ≢ Some Cause.Write) }
 {
     let verdict = check(alloc, script, journal)?;

@@ -33,10 +33,13 @@ pub fn script_of<S: Source>(alloc: Global, call: Call, input: &mut S) -> Result<
     ensures accepted { IfOk result (λ given. IsAccepted given.script) }
     ensures empty { IfOk result (λ given. checks (Some call) ≡ false → given.journal ≡ []) }
     ensures ended { OnOk result (reads (Some call) ≡ true → S.ended input.new × IsAtEnd (S.left input.new)) }
-    ensures unread { reads (Some call) ≡ false → (S.left input.new ≡ S.left input.old) × (S.faults input.new ≡ S.faults input.old) }
+    ensures unread { reads (Some call) ≡ false → (S.left input.new ≡ S.left input.old)
+        × (S.faults input.new ≡ S.faults input.old) }
     ensures taken { TakesAtMost (INPUT_MOST + 1) (S.left input.old) (S.left input.new) }
-    ensures below { IfErr result (λ cause. cause ≡ Cause.Read → TakesFewer (INPUT_MOST + 1) (S.left input.old) (S.left input.new)) }
-    ensures due { IfOk result (λ given. (answer : Option Cause) (output : List ℕ) → IsAnswer (Some call) given.script given.journal answer output → IsDue (Some call) (S.left input.old) answer) }
+    ensures below { IfErr result (λ cause. cause ≡ Cause.Read
+        → TakesFewer (INPUT_MOST + 1) (S.left input.old) (S.left input.new)) }
+    ensures due { IfOk result (λ given. (answer : Option Cause) (output : List ℕ)
+        → IsAnswer (Some call) given.script given.journal answer output → IsDue (Some call) (S.left input.old) answer) }
     ensures refused { IfErr result (IsRefusal (Some call) (S.left input.old)) }
     ensures fault { HasCause (S.faults input.old) (S.faults input.new) result Cause.Read }
 {
@@ -81,7 +84,8 @@ fn read_input<S: Source>(alloc: Global, input: &mut S) -> Result<Script, Cause>
     ensures accepted { IfOk result (λ script. IsAccepted script) }
     ensures ended { OnOk result (S.ended input.new × IsAtEnd (S.left input.new)) }
     ensures taken { TakesAtMost (INPUT_MOST + 1) (S.left input.old) (S.left input.new) }
-    ensures below { IfErr result (λ cause. cause ≡ Cause.Read → TakesFewer (INPUT_MOST + 1) (S.left input.old) (S.left input.new)) }
+    ensures below { IfErr result (λ cause. cause ≡ Cause.Read
+        → TakesFewer (INPUT_MOST + 1) (S.left input.old) (S.left input.new)) }
     ensures unrefused { OnOk result (IfSome (S.left input.old) (λ text. cause_of text ≡ None)) }
     ensures refused { IfErr result (IsRefusedFor (S.left input.old)) }
     ensures fault { HasCause (S.faults input.old) (S.faults input.new) result Cause.Read }
@@ -92,12 +96,15 @@ fn read_input<S: Source>(alloc: Global, input: &mut S) -> Result<Script, Cause>
 
 /// The script and the journal behind it that the whole input is. Its bytes are given up before the check.
 pub fn read_to_check<S: Source>(alloc: Global, input: &mut S) -> Result<Given, Cause>
-    ensures both { IfOk result (λ given. IfSome (S.left input.old) (λ text. IsTextOfBoth text given.script given.journal)) }
+    ensures both { IfOk result
+        (λ given. IfSome (S.left input.old) (λ text. IsTextOfBoth text given.script given.journal)) }
     ensures accepted { IfOk result (λ given. IsAccepted given.script) }
     ensures ended { OnOk result (S.ended input.new × IsAtEnd (S.left input.new)) }
     ensures taken { TakesAtMost (INPUT_MOST + 1) (S.left input.old) (S.left input.new) }
-    ensures below { IfErr result (λ cause. cause ≡ Cause.Read → TakesFewer (INPUT_MOST + 1) (S.left input.old) (S.left input.new)) }
-    ensures checked { IfOk result (λ given. IfSome (S.left input.old) (λ text. checked_of text ≡ Ok (given.script, given.journal))) }
+    ensures below { IfErr result (λ cause. cause ≡ Cause.Read
+        → TakesFewer (INPUT_MOST + 1) (S.left input.old) (S.left input.new)) }
+    ensures checked { IfOk result
+        (λ given. IfSome (S.left input.old) (λ text. checked_of text ≡ Ok (given.script, given.journal))) }
     ensures refused { IfErr result (IsUnchecked (S.left input.old)) }
     ensures fault { HasCause (S.faults input.old) (S.faults input.new) result Cause.Read }
 {
@@ -116,7 +123,8 @@ fn read_bytes<S: Source>(alloc: Global, input: &mut S) -> Result<Bytes, Cause>
     ensures first { IfOk result (λ bytes. IfSome (S.left input.old) (λ text. bytes ≡ take (INPUT_MOST + 1) text)) }
     ensures end { IfOk result (λ bytes. length bytes ≤ INPUT_MOST → S.ended input.new × IsAtEnd (S.left input.new)) }
     ensures taken { TakesAtMost (INPUT_MOST + 1) (S.left input.old) (S.left input.new) }
-    ensures below { IfErr result (λ cause. cause ≡ Cause.Read → TakesFewer (INPUT_MOST + 1) (S.left input.old) (S.left input.new)) }
+    ensures below { IfErr result (λ cause. cause ≡ Cause.Read
+        → TakesFewer (INPUT_MOST + 1) (S.left input.old) (S.left input.new)) }
     ensures refused { IfErr result (λ cause. (cause ≡ Cause.Read) ⊎ (cause ≡ Cause.Memory)) }
     ensures fault { HasCause (S.faults input.old) (S.faults input.new) result Cause.Read }
 {

@@ -54,7 +54,9 @@ pub fn finish<K: Sink>(
     ensures journal { result.journal ≡ journal }
     ensures status { IsStatusOf result.cause result.status }
     ensures memory { result.cause ≢ Some Cause.Memory → is_ok answer ≡ true }
-    ensures all { IfOk answer (λ a. ((result.cause ≡ a.cause) × Appends (K.written out.old) (K.written out.new) a.output) ⊎ (result.cause ≡ Some Cause.Write) ⊎ (result.cause ≡ Some Cause.Memory)) }
+    ensures all { IfOk answer
+        (λ a. ((result.cause ≡ a.cause) × Appends (K.written out.old) (K.written out.new) a.output)
+        ⊎ (result.cause ≡ Some Cause.Write) ⊎ (result.cause ≡ Some Cause.Memory)) }
     ensures none { OnErr answer (result.cause ≡ Some Cause.Memory) }
     ensures front { IfOk answer (λ a. AppendsFront (K.written out.old) (K.written out.new) a.output) }
     ensures unwritten { OnErr answer (Keeps (K.written out.old) (K.written out.new)) }
@@ -79,7 +81,8 @@ pub fn finish<K: Sink>(
 // Writes an answer's output, and gives the answer's cause, or else why that failed.
 fn write<K: Sink>(answer: Answer, out: &mut K) -> Option<Cause>
     requires unfailed { answer.cause ≢ Some Cause.Write }
-    ensures all { ((result ≡ answer.cause) × Appends (K.written out.old) (K.written out.new) answer.output) ⊎ (result ≡ Some Cause.Write) ⊎ (result ≡ Some Cause.Memory) }
+    ensures all { ((result ≡ answer.cause) × Appends (K.written out.old) (K.written out.new) answer.output)
+        ⊎ (result ≡ Some Cause.Write) ⊎ (result ≡ Some Cause.Memory) }
     ensures front { AppendsFront (K.written out.old) (K.written out.new) answer.output }
     ensures fault { IsFaultOf Cause.Write (K.faults out.old) (K.faults out.new) result }
 {

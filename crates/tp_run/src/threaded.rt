@@ -38,14 +38,19 @@ pub fn tempo_run<R: Threads + Wait + Sync, S: Source, K: Sink, G: Gate + Sync>(
     gate: &G,
 ) -> Finished
     ensures status { IsStatusOf result.cause result.status }
-    ensures read { IsRead (threaded (call_of words.now)) (S.left input.old) (S.left input.new) (S.ended input.new) (S.faults input.old) (S.faults input.new) result }
+    ensures read { IsRead (threaded (call_of words.now)) (S.left input.old) (S.left input.new) (S.ended input.new)
+        (S.faults input.old) (S.faults input.new) result }
     ensures kept { IsKept (threaded (call_of words.now)) result }
-    ensures written { IsWritten (threaded (call_of words.now)) (K.written out.old) (K.written out.new) (K.faults out.old) (K.faults out.new) result }
+    ensures written { IsWritten (threaded (call_of words.now)) (K.written out.old) (K.written out.new)
+        (K.faults out.old) (K.faults out.new) result }
 
     // Where no count of faults rose, the answer is the call's own, but for want of memory: an input is refused for its
     // cause alone, and the text of each accepted script is run.
-    ensures exact { ¬ Rose (S.faults input.old) (S.faults input.new) → ¬ Rose (K.faults out.old) (K.faults out.new) → IsDue (threaded (call_of words.now)) (S.left input.old) result.cause ⊎ (result.cause ≡ Some Cause.Memory) }
-    ensures complete { IsInputFor (threaded (call_of words.now)) (S.left input.old) → ¬ Rose (S.faults input.old) (S.faults input.new) → ¬ Rose (K.faults out.old) (K.faults out.new) → IsServed (threaded (call_of words.now)) result.cause ⊎ (result.cause ≡ Some Cause.Memory) }
+    ensures exact { ¬ Rose (S.faults input.old) (S.faults input.new) → ¬ Rose (K.faults out.old) (K.faults out.new)
+        → IsDue (threaded (call_of words.now)) (S.left input.old) result.cause ⊎ (result.cause ≡ Some Cause.Memory) }
+    ensures complete { IsInputFor (threaded (call_of words.now)) (S.left input.old)
+        → ¬ Rose (S.faults input.old) (S.faults input.new) → ¬ Rose (K.faults out.old) (K.faults out.new)
+        → IsServed (threaded (call_of words.now)) result.cause ⊎ (result.cause ≡ Some Cause.Memory) }
 {
     let Some(call) = threaded_call(words) else {
         return refused(alloc, Cause::Words);

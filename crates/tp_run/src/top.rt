@@ -23,15 +23,20 @@ pub fn tempo<R: Threads + Wait + Sync, S: Source, K: Sink, G: Gate + Sync>(
     gate: &G,
 ) -> Finished
     ensures status { IsStatusOf result.cause result.status }
-    ensures read { IsRead (call_of words.now) (S.left input.old) (S.left input.new) (S.ended input.new) (S.faults input.old) (S.faults input.new) result }
+    ensures read { IsRead (call_of words.now) (S.left input.old) (S.left input.new) (S.ended input.new)
+        (S.faults input.old) (S.faults input.new) result }
     ensures kept { IsKept (call_of words.now) result }
-    ensures written { IsWritten (call_of words.now) (K.written out.old) (K.written out.new) (K.faults out.old) (K.faults out.new) result }
+    ensures written { IsWritten (call_of words.now) (K.written out.old) (K.written out.new) (K.faults out.old)
+        (K.faults out.new) result }
 
     // Where no count of faults rose, the answer is the call's own, but for want of memory: an input is refused for its
     // cause alone, the text of each accepted script is run, each text of a script and a journal is
     // checked, and each number is served.
-    ensures exact { ¬ Rose (S.faults input.old) (S.faults input.new) → ¬ Rose (K.faults out.old) (K.faults out.new) → IsDue (call_of words.now) (S.left input.old) result.cause ⊎ (result.cause ≡ Some Cause.Memory) }
-    ensures complete { IsInputFor (call_of words.now) (S.left input.old) → ¬ Rose (S.faults input.old) (S.faults input.new) → ¬ Rose (K.faults out.old) (K.faults out.new) → IsServed (call_of words.now) result.cause ⊎ (result.cause ≡ Some Cause.Memory) }
+    ensures exact { ¬ Rose (S.faults input.old) (S.faults input.new) → ¬ Rose (K.faults out.old) (K.faults out.new)
+        → IsDue (call_of words.now) (S.left input.old) result.cause ⊎ (result.cause ≡ Some Cause.Memory) }
+    ensures complete { IsInputFor (call_of words.now) (S.left input.old)
+        → ¬ Rose (S.faults input.old) (S.faults input.new) → ¬ Rose (K.faults out.old) (K.faults out.new)
+        → IsServed (call_of words.now) result.cause ⊎ (result.cause ≡ Some Cause.Memory) }
 {
     if threaded_call(words).is_some() {
         tempo_run(rt, alloc, words, input, out, gate)

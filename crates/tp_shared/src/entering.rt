@@ -23,11 +23,13 @@ impl Desk {
     /// entry sends.
     pub fn enter(&mut self, event: Event, outputs: Outputs) -> Result<u64, EnterFault>
         requires held { (self.old.holds ≡ true) × (self.old.actor ≢ None) }
-        requires legal { crash_in self.old.actor self.old.seen ≡ None → MayFollow self.old.opening.script self.old.seen (entry_of self.old event outputs) }
+        requires legal { crash_in self.old.actor self.old.seen ≡ None
+            → MayFollow self.old.opening.script self.old.seen (entry_of self.old event outputs) }
         ensures entered { OnOk result (self.new ≡ entered self.old (entry_of self.old event outputs)) }
         ensures number { IfOk result (λ n. n ≡ length self.new.seen) }
         ensures same { OnErr result (self.new ≡ self.old) }
-        ensures crashed { MatchResult result (λ _. crash_in self.old.actor self.old.seen ≡ None) (FaultIs (crash_in self.old.actor self.old.seen)) }
+        ensures crashed { MatchResult result
+            (λ _. crash_in self.old.actor self.old.seen ≡ None) (FaultIs (crash_in self.old.actor self.old.seen)) }
     {
         if let Some(entry) = self.crash {
             return Err(EnterFault::Crashed { entry });

@@ -69,7 +69,9 @@ fn add_output(
     message: &Message,
     actor: ActorName,
 ) -> Result<(), NoMemory>
-    ensures { OnOk result (parcels.new ≡ parcels.old ++ filter (is_for actor) (record { entry = entry; place = place; message = message.now } ∷ [])) }
+    ensures { OnOk result
+        (parcels.new ≡ parcels.old ++ filter (is_for actor)
+        (record { entry = entry; place = place; message = message.now } ∷ [])) }
 {
     if message.to != actor {
         return Ok(());

@@ -12,7 +12,8 @@ use tp_base::ActorName;
 
 // Tries for the turn until it is won.
 pub fn win(rt: &impl Wait, room: &Room, seat: &mut Place)
-    requires table { (seat.old.table_id ≡ room.now.table_id) × (room.now.table_id.words ≡ 1) × (room.now.table_id.slots ≡ 1) }
+    requires table { (seat.old.table_id ≡ room.now.table_id) × (room.now.table_id.words ≡ 1)
+        × (room.now.table_id.slots ≡ 1) }
     requires seat { (seat.old.me.0.spent ≡ false) × (seat.old.me.0.holds ≡ false) × (seat.old.me.1 ≡ []) }
     ensures table { seat.new.table_id ≡ seat.old.table_id }
     ensures won { Won seat.old.me.0 seat.new.me }
@@ -31,7 +32,8 @@ fn cut<N: Naming>(room: &Room, seat: &mut Place, actor: ActorName) -> Place
     requires table { (seat.old.table_id ≡ room.now.table_id) × (room.now.table_id.words ≡ 1) }
     requires seat { (seat.old.me.0.spent ≡ false) × (seat.old.me.0.holds ≡ false) × (seat.old.me.0.actor ≡ None) }
     requires fresh { has same_name actor seat.old.me.0.listed ≡ false }
-    ensures left { (seat.new.table_id ≡ seat.old.table_id) × (seat.new.me ≡ (listing actor seat.old.me.0, seat.old.me.1)) }
+    ensures left { (seat.new.table_id ≡ seat.old.table_id)
+        × (seat.new.me ≡ (listing actor seat.old.me.0, seat.old.me.1)) }
     ensures right { (result.table_id ≡ seat.old.table_id) × (result.me ≡ (newcomer actor seat.old.me.0, [])) }
 {
     let _ = actor;
@@ -43,7 +45,8 @@ pub fn split(room: &Room, seat: &mut Place, actor: ActorName) -> Place
     requires table { (seat.old.table_id ≡ room.now.table_id) × (room.now.table_id.words ≡ 1) }
     requires seat { (seat.old.me.0.spent ≡ false) × (seat.old.me.0.holds ≡ false) × (seat.old.me.0.actor ≡ None) }
     requires fresh { has same_name actor seat.old.me.0.listed ≡ false }
-    ensures left { (seat.new.table_id ≡ seat.old.table_id) × (seat.new.me ≡ (listing actor seat.old.me.0, seat.old.me.1)) }
+    ensures left { (seat.new.table_id ≡ seat.old.table_id)
+        × (seat.new.me ≡ (listing actor seat.old.me.0, seat.old.me.1)) }
     ensures right { (result.table_id ≡ seat.old.table_id) × (result.me ≡ (newcomer actor seat.old.me.0, [])) }
 {
     cut::<Brand>(room, seat, actor)
@@ -51,10 +54,12 @@ pub fn split(room: &Room, seat: &mut Place, actor: ActorName) -> Place
 
 // Joins a seat to the first, and looks.
 pub fn join(room: &Room, seat: &mut Place, other: Place)
-    requires table { (seat.old.table_id ≡ room.now.table_id) × (other.table_id ≡ room.now.table_id) × (room.now.table_id.words ≡ 1) }
+    requires table { (seat.old.table_id ≡ room.now.table_id) × (other.table_id ≡ room.now.table_id)
+        × (room.now.table_id.words ≡ 1) }
     requires seat { (seat.old.me.0.spent ≡ false) × (seat.old.me.0.holds ≡ false) × (seat.old.me.0.actor ≡ None) }
     requires other { (other.me.0.spent ≡ false) × (other.me.0.holds ≡ false) × (other.me.1 ≡ []) }
-    ensures same { (seat.new.table_id ≡ seat.old.table_id) × (seat.new.me ≡ (both seat.old.me.0 other.me.0, seat.old.me.1)) }
+    ensures same { (seat.new.table_id ≡ seat.old.table_id)
+        × (seat.new.me ≡ (both seat.old.me.0 other.me.0, seat.old.me.1)) }
     ensures looks { Looks (both seat.old.me.0 other.me.0) }
 {
     room.join_seat::<Glue>(seat, other);

@@ -39,7 +39,8 @@ pub fn end<A: Actor>(
     requires all { HasCells script.now 0 first cells.items }
     requires done { NoneSpent cells.items → AllDone cells.items }
     ensures run { IsRun script.now result.journal }
-    ensures own { (w : Worker A) → IsIn w cells.items → (name : ActorValue) × IsCell A.identity_of A.is_spent A.stands name w × IsPartOf w name result.journal }
+    ensures own { (w : Worker A) → IsIn w cells.items → (name : ActorValue)
+        × IsCell A.identity_of A.is_spent A.stands name w × IsPartOf w name result.journal }
     ensures one { IsOneSeen first.seen cells.items result.journal }
     ensures spent { result.spent ≡ false → NoneSpent cells.items }
     ensures quiet { result.spent ≡ false → IsQuiet script.now result.journal }

@@ -7,14 +7,14 @@ use Rattle.tp_netbook.specs.Inbox.{entries_by as told_of}
 use Rattle.tp_rules.specs.Acts.{Act, Identity}
 use Rattle.tp_rules.specs.Journal.{is_crash, is_live}
 use Rattle.tp_rules.specs.Plan.{due_of}
-use Rattle.tp_rules.specs.Runs.{FollowsFate, FollowsLine, IsRun, MayHappen}
+use Rattle.tp_rules.specs.Runs.{FollowsFate, FollowsLine, IsRun, MayHappen, outputs_in}
 use Rattle.tp_rules.specs.declared.event.Entry.{Entry}
 use Rattle.tp_rules.specs.declared.event.Event.{Event}
 use Rattle.tp_rules.specs.declared.event.Parcel.{Parcel}
 use Rattle.tp_script.specs.declared.script.Script.{Script}
 use Rattle.tp_shared.specs.Histories.{crash_of, entries_by}
 use Rattle.tp_shared.specs.Known.{Known}
-use Rattle.tp_shared.specs.Known.{crash_in}
+use Rattle.tp_shared.specs.Known.{crash_in, entry_of, name_of}
 use Rattle.tp_shared.specs.declared.entering.EnterFault.{EnterFault}
 use Rattle.tp_shared.specs.declared.entering.EnterFault.TheVariants.{Crashed as Refused, NoMemory}
 use Rattle.tp_worker.specs.Cells.{HasGrown, IsCell, IsDeskOf, Worker, with_more}
@@ -65,6 +65,10 @@ pub record HasEntered (e : Entry) (old new : Post) : Type 0 where
   pub alive : crash_of e.actor before ≡ None
   pub seen : new.desk.seen ≡ before ++ e ∷ []
   pub own : new.desk.own ≡ old.desk.own ++ e ∷ []
+
+-- the entry that the desk's actor makes at an event, by the rules
+abbrev pub made_in : Known → Event → Entry
+made_in k event = entry_of k event (outputs_in k.opening.script (reverse k.seen) (name_of k.actor) event)
 
 -- the fault says by which entry the actor's site crashed
 abbrev pub IsRefused : Known → EnterFault → Type 0

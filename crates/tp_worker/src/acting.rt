@@ -14,8 +14,10 @@ use tp_rules::{Actor, Event, Outputs};
 pub fn next<A: Actor>(post: &Post, actor: &A) -> Option<Event>
     requires post { IsPost (name_of post.now.desk.actor) post.now }
     requires all { post.now.fetched ≡ length post.now.desk.seen }
-    requires up_to { IsUpTo A.identity_of A.is_spent A.stands post.now.desk.opening.script post.now.desk.seen (name_of post.now.desk.actor) actor.now }
-    ensures may { IfSome result (MayOffer post.now.desk.opening.script (reverse post.now.desk.seen) (name_of post.now.desk.actor)) }
+    requires up_to { IsUpTo A.identity_of A.is_spent A.stands post.now.desk.opening.script post.now.desk.seen
+        (name_of post.now.desk.actor) actor.now }
+    ensures may { IfSome result
+        (MayOffer post.now.desk.opening.script (reverse post.now.desk.seen) (name_of post.now.desk.actor)) }
     ensures idle { IfNone result (IsIdle post.now.desk) }
 {
     if let Some(event) = post.inbox.next() {
@@ -29,12 +31,17 @@ pub fn next<A: Actor>(post: &Post, actor: &A) -> Option<Event>
 pub fn act<A: Actor>(post: &Post, actor: &mut A, event: Event) -> Result<Outputs, NoMemory>
     requires post { IsPost (name_of post.now.desk.actor) post.now }
     requires all { post.now.fetched ≡ length post.now.desk.seen }
-    requires up_to { IsUpTo A.identity_of A.is_spent A.stands post.now.desk.opening.script post.now.desk.seen (name_of post.now.desk.actor) actor.old }
-    requires may { MayOffer post.now.desk.opening.script (reverse post.now.desk.seen) (name_of post.now.desk.actor) event }
+    requires up_to { IsUpTo A.identity_of A.is_spent A.stands post.now.desk.opening.script post.now.desk.seen
+        (name_of post.now.desk.actor) actor.old }
+    requires may { MayOffer post.now.desk.opening.script (reverse post.now.desk.seen)
+        (name_of post.now.desk.actor) event }
     ensures identity { A.identity_of actor.new ≡ A.identity_of actor.old }
-    ensures outputs { IfOk result (λ outputs. outputs ≡ outputs_in post.now.desk.opening.script (reverse post.now.desk.seen) (name_of post.now.desk.actor) event) }
+    ensures outputs { IfOk result
+        (λ outputs. outputs ≡ outputs_in post.now.desk.opening.script (reverse post.now.desk.seen)
+        (name_of post.now.desk.actor) event) }
     ensures unspent { OnOk result (A.is_spent actor.new ≡ false) }
-    ensures stands { OnOk result ((acts : List Act) → A.stands actor.old acts → A.stands actor.new (with_act (act_of (reverse post.now.desk.seen) event) acts)) }
+    ensures stands { OnOk result ((acts : List Act) → A.stands actor.old acts
+        → A.stands actor.new (with_act (act_of (reverse post.now.desk.seen) event) acts)) }
 {
     match event {
         Event::Deliver { entry, place } => {

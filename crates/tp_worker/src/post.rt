@@ -51,8 +51,12 @@ impl Post {
         requires table { self.old.desk.table ≡ shared.now }
         requires post { IsPost (name_of self.old.desk.actor) self.old }
         requires all { self.old.fetched ≡ length self.old.desk.seen }
-        requires legal { is_live (reverse self.old.desk.seen) (name_of self.old.desk.actor) ≡ true → MayFollow self.old.desk.opening.script self.old.desk.seen (entry_of self.old.desk event outputs) }
-        requires next { MayBeDone event (next_event self.old.desk.opening.script (name_of self.old.desk.actor) (sent_to (name_of self.old.desk.actor) (reverse self.old.desk.seen)) (entries_by (name_of self.old.desk.actor) (reverse self.old.desk.seen))) }
+        requires legal { is_live (reverse self.old.desk.seen) (name_of self.old.desk.actor) ≡ true
+            → MayFollow self.old.desk.opening.script self.old.desk.seen (entry_of self.old.desk event outputs) }
+        requires next { MayBeDone event
+            (next_event self.old.desk.opening.script (name_of self.old.desk.actor)
+            (sent_to (name_of self.old.desk.actor) (reverse self.old.desk.seen))
+            (entries_by (name_of self.old.desk.actor) (reverse self.old.desk.seen))) }
         ensures worked { HasWorked self.old self.new }
         ensures entered { OnOk result (HasEntered (entry_of self.old.desk event outputs) self.old self.new) }
         ensures post { OnOk result (IsPost (name_of self.old.desk.actor) self.new) }

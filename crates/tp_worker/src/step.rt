@@ -1,7 +1,7 @@
 ghost use Rattle.std.specs.Prelude.{◌≡◌, length, reverse};
 ghost use Rattle.tp_shared.specs.Known.{name_of};
 ghost use Rattle.tp_worker.specs.Cells.{IsUpTo};
-ghost use Rattle.tp_worker.specs.Posts.{HasWorked, IsPost, Keeps, MayOffer, IsEndedBy};
+ghost use Rattle.tp_worker.specs.Posts.{HasEntered, HasWorked, IsEndedBy, IsPost, Keeps, MayOffer, made_in};
 ghost use Rattle.tp_worker.specs.declared.cell.CellState.TheVariants.{Live};
 
 use crate::acting::act;
@@ -25,11 +25,14 @@ pub fn advance<R: Wait, A: Actor, G: Gate>(
     requires table { post.old.desk.table ≡ shared.now }
     requires post { IsPost (name_of post.old.desk.actor) post.old }
     requires all { post.old.fetched ≡ length post.old.desk.seen }
-    requires up_to { IsUpTo A.identity_of A.is_spent A.stands post.old.desk.opening.script post.old.desk.seen (name_of post.old.desk.actor) actor.old }
-    requires may { MayOffer post.old.desk.opening.script (reverse post.old.desk.seen) (name_of post.old.desk.actor) event }
+    requires up_to { IsUpTo A.identity_of A.is_spent A.stands post.old.desk.opening.script post.old.desk.seen
+        (name_of post.old.desk.actor) actor.old }
+    requires may { MayOffer post.old.desk.opening.script (reverse post.old.desk.seen)
+        (name_of post.old.desk.actor) event }
     ensures worked { HasWorked post.old post.new }
     ensures identity { A.identity_of actor.new ≡ A.identity_of actor.old }
     ensures keeps { Keeps A.identity_of A.is_spent A.stands actor.new post.new result }
+    ensures entered { result ≡ Live → HasEntered (made_in post.old.desk event) post.old post.new }
     ensures all { result ≡ Live → post.new.fetched ≡ length post.new.desk.seen }
 {
     let Ok(outputs) = act(post, actor, event) else {

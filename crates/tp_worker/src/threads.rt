@@ -54,7 +54,8 @@ fn round<R: Threads + Wait + Sync, A: Actor + Send, G: Gate + Sync>(
         threads,
         &|_, cell: &mut Cell<A>|
             requires { cell.now.desk.table ≡ shared.now }
-            ensures { GoesOn A.identity_of cell.entry.now cell.exit.now × (cell.exit.now.state ≡ Live → IsDone cell.exit.now) }
+            ensures { GoesOn A.identity_of cell.entry.now cell.exit.now
+                × (cell.exit.now.state ≡ Live → IsDone cell.exit.now) }
         {
             work(rt, cell, shared, gate);
         },
