@@ -5,11 +5,7 @@ use Rattle.std.specs.Prelude.{not, slice_get}
 use Rattle.tp_base.proofs.Ends.{get_set_other, get_set_same, slice_get_left, slice_get_push}
 use Rattle.tp_bits.proofs.Selected.{select_few, select_here, select_none, selected}
 use Rattle.tp_bits.proofs.Sums.{ones_push, sum_front, sum_fronts, sum_next, sum_push_before, sum_set_before}
-use Rattle.tp_bits.specs.Bits.{AreBits, AreCounted, IsFirstFrom, one, ones, select}
-use Rattle.tp_bits.specs.declared.bits.Bits.{Bits}
-
-pub counted : (bits : List Bool) (b : Bits) → AreBits bits b → AreCounted bits b
-counted bits b are = record { items = are.items; short = are.short; blocks = are.blocks; groups = are.groups }
+use Rattle.tp_bits.specs.Bits.{IsFirstFrom, one, ones, select}
 
 -- with none before it, it is the first
 pub first_here : (bits : List Bool) (i : ℕ) → slice_get bits i ≡ Some true → ones (take i bits) ≡ 0 → select bits 0 ≡ Some i
@@ -19,10 +15,10 @@ pub first_from : (bits : List Bool) (from i : ℕ) → ones (take from bits) ≡
 first_from bits from i none is = first_here bits i is.0 (is.1 ∙ none)
 
 -- none is set before the group of a place with none before it
-pub group_before : (bits : List Bool) (i : ℕ) → ones (take i bits) ≡ 0 → ones (take (4096 * (i / 4096)) bits) ≡ 0
-group_before bits i none = omega (arith, none, sum_fronts one bits (4096 * (i / 4096)) i (omega arith))
+pub group_before : (bits : List Bool) (i : ℕ) → ones (take i bits) ≡ 0 → ones (take (8192 * (i / 8192)) bits) ≡ 0
+group_before bits i none = omega (arith, none, sum_fronts one bits (8192 * (i / 8192)) i (omega arith))
 
-pub none_before : (bits : List Bool) (i : ℕ) → select bits 0 ≡ Some i → ones (take (4096 * (i / 4096)) bits) ≡ 0
+pub none_before : (bits : List Bool) (i : ℕ) → select bits 0 ≡ Some i → ones (take (8192 * (i / 8192)) bits) ≡ 0
 none_before bits i is = group_before bits i (selected bits 0 i is).1
 
 pub none_at_all : (bits : List Bool) (rank : ℕ) → select bits 0 ≡ None → select bits rank ≡ None

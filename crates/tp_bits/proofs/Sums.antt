@@ -70,6 +70,11 @@ pub one_small : (bit : Bool) → one bit ≤ 1
 one_small true = omega arith
 one_small false = omega arith
 
+-- what is less than a bit's unit
+pub one_only : (bit : Bool) (n : ℕ) → n < one bit → (bit ≡ true) × (n ≡ 0)
+one_only true n lt = (refl, omega arith)
+one_only false n lt = absurd (omega arith)
+
 pub ones_few : (bits : List Bool) → ones bits ≤ length bits
 ones_few [] = omega arith
 ones_few (true ∷ bits) = omega (arith, ones_few bits)

@@ -1,10 +1,10 @@
 -- Counts of bits by blocks, after one more bit and after one that is turned.
-use Rattle.std.proofs.Common.{◌≡◌, ℕ, suc, ◌+◌, ◌-◌, ◌*◌, ◌<◌, ◌≤◌, ◌^◌, inl, inr, Bool, true, false, List, [], ◌∷◌, ◌++◌, length, set, take, Some, sym, ap, ◌∙◌, arith}
+use Rattle.std.proofs.Common.{◌≡◌, ℕ, suc, ◌+◌, ◌-◌, ◌*◌, ◌<◌, ◌≤◌, ◌^◌, inl, inr, Bool, true, false, List, [], ◌∷◌, ◌++◌, length, set, take, Some, sym, ap, subst, ◌∙◌, arith}
 use Rattle.std.proofs.Math.Nat.{mul-le-mul_left}
 use Rattle.std.proofs.lemmas.Bool.{cases_lt}
 use Rattle.std.proofs.lemmas.List.{length-append, length-set}
 use Rattle.std.specs.Prelude.{min, not, slice_get}
-use Rattle.tp_bits.proofs.Sums.{ones_few, sum_all, sum_front, sum_fronts, sum_next, sum_push_after, sum_push_before, sum_set_after, sum_set_before}
+use Rattle.tp_bits.proofs.Sums.{ones_few, sum_all, sum_front, sum_fronts, sum_next, sum_push_after, sum_push_before, sum_set_after, sum_set_before, written_back}
 use Rattle.tp_bits.specs.Bits.{IsBlockOf, IsTally, itself, one, ones, sum_of}
 
 -- all blocks before another end before it
@@ -16,6 +16,10 @@ before w i j lt =
 
 up_to : (w i j : ℕ) → i ≤ j → w * i ≤ w * j
 up_to w i j le = mul-le-mul_left w le
+
+-- counts are written back over others of the same number
+pub counts_back : (w : ℕ) (bits : List Bool) (counts others : List ℕ) (n : ℕ) → n ≡ length counts → IsTally w bits counts → IsTally w bits (take n (counts ++ others))
+counts_back w bits counts others n long = subst (IsTally w bits) (sym (written_back counts others n long))
 
 module _ (w : ℕ) (bits : List Bool) (counts : List ℕ) (is : IsTally w bits counts) where
   pub sum_is : sum_of itself counts ≡ ones bits

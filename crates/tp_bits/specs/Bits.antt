@@ -46,19 +46,17 @@ IsSpot counts from rank (Some spot) =
     (sum_of itself (take spot.block counts) + spot.rank ≡ sum_of itself (take from counts) + rank)
     × ((count : ℕ) × (slice_get counts spot.block ≡ Some count) × (spot.rank < count))
 
--- the bits of a list and its counts: in blocks of 64, and in groups of 64 blocks
+-- the bits of a list and its counts: in blocks of 32, in rows of 16 blocks, and in groups of 16 rows
 pub record AreCounted (bits : List Bool) (b : Bits) : Type 0 where
   pub items : b.bits.items ≡ bits
   pub short : length bits < 2 ^ 63
-  pub blocks : IsTally 64 bits b.blocks.items
-  pub groups : IsTally 4096 bits b.groups.items
+  pub blocks : IsTally 32 bits b.blocks.items
+  pub rows : IsTally 512 bits b.rows.items
+  pub groups : IsTally 8192 bits b.groups.items
 
--- the bits of a list, how many are set, and which is the first that is set
+-- the bits of a list with their counts, how many are set, and which is the first that is set
 pub record AreBits (bits : List Bool) (b : Bits) : Type 0 where
-  pub items : b.bits.items ≡ bits
-  pub short : length bits < 2 ^ 63
-  pub blocks : IsTally 64 bits b.blocks.items
-  pub groups : IsTally 4096 bits b.groups.items
+  pub counted : AreCounted bits b
   pub ones : b.ones ≡ ones bits
   pub first : b.first ≡ select bits 0
 

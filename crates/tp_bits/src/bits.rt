@@ -6,16 +6,19 @@ use std::alloc::Global;
 use tp_base::NoMemory;
 
 /// How many bits a block has.
-const BLOCK: usize = 64;
-/// How many bits a group of blocks has.
-const GROUP: usize = 4096;
+const BLOCK: usize = 32;
+/// How many bits a row of blocks has.
+const ROW: usize = 512;
+/// How many bits a group of rows has.
+const GROUP: usize = 8192;
 
-/// A growable list of bits, with how many are set in each block and in each group of blocks, and which is
-/// the first that is set.
+/// A growable list of bits, with how many are set in each block, in each row of blocks and in each group of
+/// rows, and which is the first that is set.
 #[derive(Debug, Drop)]
 pub struct Bits {
     bits: Vec<bool>,
     blocks: Vec<u64>,
+    rows: Vec<u64>,
     groups: Vec<u64>,
     ones: u64,
     first: Option<usize>,
@@ -29,6 +32,7 @@ impl Bits {
         Bits {
             bits: Vec::new(alloc),
             blocks: Vec::new(alloc),
+            rows: Vec::new(alloc),
             groups: Vec::new(alloc),
             ones: 0,
             first: None,
@@ -60,6 +64,7 @@ impl Bits {
         let place = self.bits.len();
         self.bits.push(bit)?;
         count_new(&mut self.blocks, place / BLOCK, bit)?;
+        count_new(&mut self.rows, place / ROW, bit)?;
         count_new(&mut self.groups, place / GROUP, bit)?;
         self.ones = self.ones.saturating_add(u64::from(bit));
         self.first = first_pushed(self.first, place, bit);
@@ -89,6 +94,7 @@ impl Bits {
     {
         self.bits[place] = bit;
         count_turned(&mut self.blocks, place / BLOCK, bit);
+        count_turned(&mut self.rows, place / ROW, bit);
         count_turned(&mut self.groups, place / GROUP, bit);
         let ones = self.ones.saturating_add(u64::from(bit));
         self.ones = ones.saturating_sub(u64::from(!bit));
@@ -122,13 +128,16 @@ impl Bits {
         self.search(place / GROUP, 0)
     }
 
-    // The place of the set bit of a rank, where none is set before a group of blocks.
+    // The place of the set bit of a rank, where none is set before a group: its group is looked for, then its
+    // row there, its block there, and the bit itself.
     fn search(&self, from: usize, rank: u64) -> Option<usize>
-        ensures { (bits : List Bool) → AreCounted bits self.now → ones (take (4096 * from) bits) ≡ 0 → result ≡ select bits rank }
+        ensures { (bits : List Bool) → AreCounted bits self.now → ones (take (8192 * from) bits) ≡ 0 → result ≡ select bits rank }
     {
         let group = find(&self.groups, from, rank)?;
-        let first = group.block.saturating_mul(GROUP / BLOCK);
-        let block = find(&self.blocks, first, group.rank)?;
+        let first = group.block.saturating_mul(GROUP / ROW);
+        let row = find(&self.rows, first, group.rank)?;
+        let first = row.block.saturating_mul(ROW / BLOCK);
+        let block = find(&self.blocks, first, row.rank)?;
         let first = block.block.saturating_mul(BLOCK);
         find_bit(&self.bits, first, block.rank)
     }
@@ -163,12 +172,11 @@ fn find_bit(bits: &[bool], from: usize, rank: u64) -> Option<usize>
 {
     let mut left = rank;
     for place in from..bits.len() {
-        if bits[place] {
-            if left == 0 {
-                return Some(place);
-            }
-            left -= 1;
+        let unit = u64::from(bits[place]);
+        if left < unit {
+            return Some(place);
         }
+        left -= unit;
     }
     None
 }

@@ -10,4 +10,4 @@ returns-clause-count c = λ are. c.count_ones.ensures _ are ∙ many_kept (is_re
 pub returns-clause-few : goal.returns-clause-few
 returns-clause-few c = λ are.
     let bits = map (is_ready c.args.self.now) c.args.self.now.outputs.items in
-    omega (arith, c.count_ones.ensures bits are, ones_few bits, are.short)
+    omega (arith, c.count_ones.ensures bits are, ones_few bits, are.counted.short)
