@@ -9,10 +9,11 @@ use std::alloc::Global;
 use std::sync::Wait;
 use std::thread::Threads;
 use tp_base::{ActorName, NoMemory};
+use tp_cast::cast;
 use tp_check::{Verdict, check};
 use tp_driver::drive;
 use tp_journal::Journal;
-use tp_outside::OpenGate;
+use tp_outside::Gate;
 use tp_script::{Script, ScriptError, read_script};
 use tp_text::Lines;
 use tp_threads::run_on_threads;
@@ -43,7 +44,7 @@ pub fn drive_watched(alloc: Global, script: &Script, watch: &Watch) -> Result<En
     Ok(Ended { whole, journal })
 }
 
-/// Runs a script's actors on threads, each of which asks the watch.
+/// Runs a script's actors on threads, each of which asks the watch, and passes it as the gate.
 pub fn run_watched<R: Threads + Wait + Sync>(
     rt: &R,
     alloc: Global,
@@ -56,8 +57,25 @@ pub fn run_watched<R: Threads + Wait + Sync>(
 {
     let actors = watch_all(alloc, script, watch)?;
     let mut journal = Journal::new(alloc);
-    let whole = run_on_threads(rt, alloc, script, &mut journal, actors, &OpenGate).is_ok();
+    let whole = run_on_threads(rt, alloc, script, &mut journal, actors, watch).is_ok();
     Ok(Ended { whole, journal })
+}
+
+/// Runs a script's actors on threads, each of which passes the gate before each entry.
+pub fn run_gated<R: Threads + Wait + Sync, G: Gate + Sync>(
+    rt: &R,
+    alloc: Global,
+    script: &Script,
+    gate: &G,
+) -> Result<Journal, NoMemory>
+    requires { IsAccepted script.now }
+    ensures run { IfOk result (λ journal. IsRun script.now journal) }
+    ensures quiet { IfOk result (λ journal. IsQuiet script.now journal) }
+{
+    let actors = cast(alloc, script)?;
+    let mut journal = Journal::new(alloc);
+    run_on_threads(rt, alloc, script, &mut journal, actors, gate)?;
+    Ok(journal)
 }
 
 /// Whether a check says that a journal is a run.

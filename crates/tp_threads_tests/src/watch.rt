@@ -1,17 +1,31 @@
 use std::sync::atomic::{AtomicBool, Ordering};
 use std::thread;
 use tp_base::ActorName;
+use tp_outside::Gate;
 
 // So often an actor looks whether another has come.
 const LOOKS: u64 = 50_000_000;
 
-/// What actors ask before each of their steps, each on its own thread, and tell when they look for one.
+/// What actors ask before each of their steps, each on its own thread, and tell when they look for one. It is the gate
+/// that they pass too.
 #[derive(Drop)]
 pub enum Watch {
     /// One actor's step after so many others of its own is refused.
-    Refusal { actor: ActorName, after: u64 },
+    Refusal {
+        actor: ActorName,
+        after: u64,
+    },
     /// Two processes take their first messages together.
-    Meeting { one: Side, other: Side },
+    Meeting {
+        one: Side,
+        other: Side,
+    },
+    /// One actor waits at the gate with its first entry until another has entered.
+    Order {
+        first: ActorName,
+        second: ActorName,
+        has_entered: AtomicBool,
+    },
 }
 
 /// A process, and the session that sends its first message.
@@ -33,13 +47,6 @@ impl Side {
         }
     }
 
-    // A session that looks for its next step has entered the one before.
-    fn tell(&self, name: ActorName, steps: u64) {
-        if name == self.session && steps > 0 {
-            self.has_sent.store(true, Ordering::SeqCst);
-        }
-    }
-
     // Whether the other process comes too.
     fn meets(&self, other: &Side) -> bool {
         self.has_come.store(true, Ordering::SeqCst);
@@ -48,6 +55,15 @@ impl Side {
 }
 
 impl Watch {
+    /// A watch that lets one actor enter before another.
+    pub fn order(first: ActorName, second: ActorName) -> Watch {
+        Watch::Order {
+            first,
+            second,
+            has_entered: AtomicBool::new(false),
+        }
+    }
+
     /// Whether an actor may make its next step, after so many. It may wait for another's.
     pub fn lets(&self, name: ActorName, steps: u64) -> bool {
         match self {
@@ -61,19 +77,54 @@ impl Watch {
                     true
                 }
             }
+            Watch::Order {
+                first: _,
+                second: _,
+                has_entered: _,
+            } => true,
         }
     }
 
     /// An actor looks for its next step. A process that has made none finds a message when it looks again.
     pub fn looks(&self, name: ActorName, steps: u64) {
-        if let Watch::Meeting { one, other } = self {
-            one.tell(name, steps);
-            other.tell(name, steps);
-            if steps == 0 && (name == one.process || name == other.process) {
-                becomes_true(&one.has_sent);
-                becomes_true(&other.has_sent);
+        match self {
+            Watch::Refusal { actor: _, after: _ } => (),
+            Watch::Meeting { one, other } => {
+                tell(&one.has_sent, name == one.session, steps);
+                tell(&other.has_sent, name == other.session, steps);
+                if steps == 0 && (name == one.process || name == other.process) {
+                    becomes_true(&one.has_sent);
+                    becomes_true(&other.has_sent);
+                }
+            }
+            Watch::Order {
+                first,
+                second: _,
+                has_entered,
+            } => tell(has_entered, name == *first, steps),
+        }
+    }
+}
+
+impl Gate for Watch {
+    fn pass(&self, actor: ActorName, turn: u64) {
+        if let Watch::Order {
+            first: _,
+            second,
+            has_entered,
+        } = self
+        {
+            if turn == 0 && actor == *second {
+                becomes_true(has_entered);
             }
         }
+    }
+}
+
+// Who looks for its next step has entered the one before.
+fn tell(said: &AtomicBool, is_said: bool, steps: u64) {
+    if is_said && steps > 0 {
+        said.store(true, Ordering::SeqCst);
     }
 }
 
