@@ -1,7 +1,7 @@
 -- A picture's text: a drawing in SVG, one line or more for each shape. What comes from a script or a journal are numbers alone.
 use Rattle.std.specs.Fmt.{decimal}
-use Rattle.std.specs.List.{flat_map}
-use Rattle.std.specs.Prelude.{ℕ, ◌+◌, ◌*◌, ◌==◌, cond, nat_lt, codes, List, [], ◌∷◌, ◌++◌, Option, Some, None}
+use Rattle.std.specs.List.{flat_map, fold}
+use Rattle.std.specs.Prelude.{ℕ, ◌+◌, ◌*◌, ◌==◌, cond, max, length, codes, List, [], ◌∷◌, ◌++◌, Option, Some, None}
 use Rattle.tp_base.specs.declared.names.ActorName.{ActorName}
 use Rattle.tp_base.specs.declared.names.CommandId.{CommandId}
 use Rattle.tp_picture.specs.declared.place.Place.{Place}
@@ -20,11 +20,11 @@ x column = 90 + 26 * column
 
 -- of a row
 abbrev pub y : ℕ → ℕ
-y row = 206 + 34 * row
+y row = 30 + 34 * row
 
 -- what an arrow from one row to another bends to: halfway between them, or over the row
 abbrev pub bend : ℕ → ℕ → ℕ
-bend from to = cond (from == to) (176 + 34 * from) (206 + 17 * (from + to))
+bend from to = cond (from == to) (34 * from) (30 + 17 * (from + to))
 
 -- ---- words
 
@@ -84,7 +84,20 @@ number_part mark (Some n) = mark ++ decimal n
 -- ` kind command @stamp bballot`, each where it is there
 abbrev pub sign_words : Option Sign → List ℕ
 sign_words None = []
-sign_words (Some s) = codes " " ++ kind_word s.kind ++ id_part s.id ++ number_part (codes " @") s.stamp ++ number_part (codes " b") s.ballot
+sign_words (Some s) =
+    codes " " ++ kind_word s.kind ++ id_part s.id ++ number_part (codes " @") s.stamp ++ number_part (codes " b") s.ballot
+
+-- what stands above an entry: `number actor kind command @stamp bballot`
+abbrev pub label : ActorName → Option Sign → ℕ → List ℕ
+label actor sign entry = decimal entry ++ codes " " ++ actor_word actor ++ sign_words sign
+
+abbrev pub label_length : Shape → ℕ
+label_length (Dot actor sign at) = length (label actor sign at.entry)
+label_length shape = 0
+
+-- how many characters the longest label has
+unfoldable pub longest : List Shape → ℕ
+longest shapes = fold (λ n shape. max n (label_length shape)) 0 shapes
 
 abbrev pub dot_class : Option Sign → List ℕ
 dot_class None = codes "own"
@@ -102,7 +115,8 @@ point a b = decimal a ++ codes " " ++ decimal b
 -- from a place to another: it comes in vertically
 abbrev pub bow : Place → Place → List ℕ
 bow from to =
-    point (x from.column) (y from.row) ++ codes "Q" ++ point (x to.column) (bend from.row to.row) ++ codes " " ++ point (x to.column) (y to.row)
+    point (x from.column) (y from.row) ++ codes "Q" ++ point (x to.column) (bend from.row to.row) ++ codes " "
+    ++ point (x to.column) (y to.row)
 
 abbrev pub curve : List ℕ → Place → Place → List ℕ
 curve class from to = codes "<path class='" ++ class ++ codes "' d='M" ++ bow from to ++ codes "'/>"
@@ -114,7 +128,8 @@ mark class path at =
     ++ point (x at.column) (y at.row) ++ codes ")'/>"
 
 abbrev pub name : List ℕ → ℕ → ℕ → ActorName → List ℕ
-name start a b actor = start ++ quoted (codes " x='") a ++ quoted (codes " y='") b ++ codes ">" ++ actor_word actor ++ codes "</text>"
+name start a b actor =
+    start ++ quoted (codes " x='") a ++ quoted (codes " y='") b ++ codes ">" ++ actor_word actor ++ codes "</text>"
 
 -- the start of a slanted text behind a place
 abbrev pub slanted : List ℕ → ℕ → ℕ → List ℕ
@@ -124,17 +139,19 @@ slanted start a b = start ++ codes " transform='translate(" ++ point a b ++ code
 
 abbrev pub row_line : ℕ → ℕ → List ℕ
 row_line r end =
-    codes "<line class='row' x1='76'" ++ quoted (codes " y1='") (y r) ++ quoted (codes " x2='") (x end) ++ quoted (codes " y2='") (y r) ++ codes "/>"
+    codes "<line class='row' x1='76'" ++ quoted (codes " y1='") (y r) ++ quoted (codes " x2='") (x end)
+    ++ quoted (codes " y2='") (y r) ++ codes "/>"
 
 -- a row's line, with the actor's name before it and behind all columns
 abbrev pub row_text : ℕ → ActorName → ℕ → ℕ → List ℕ
 row_text r actor end columns =
-    row_line r end ++ name (codes "<text class='name'") 68 (y r + 4) actor ++ name (codes "<text") (x columns + 12) (y r + 4) actor
+    row_line r end ++ name (codes "<text class='name'") 68 (y r + 4) actor
+    ++ name (codes "<text") (x columns + 12) (y r + 4) actor
 
 -- a line from a dot up to its label
 abbrev pub guide_text : Place → List ℕ
 guide_text at =
-    codes "<line class='guide' y1='224'" ++ quoted (codes " x1='") (x at.column) ++ quoted (codes " x2='") (x at.column)
+    codes "<line class='guide' y1='48'" ++ quoted (codes " x1='") (x at.column) ++ quoted (codes " x2='") (x at.column)
     ++ quoted (codes " y2='") (y at.row) ++ codes "/>"
 
 -- the rest of a circle round a place
@@ -144,12 +161,11 @@ centred at = quoted (codes " cx='") (x at.column) ++ quoted (codes " cy='") (y a
 -- a circle of a class, on a larger one that cuts the lines that pass
 abbrev pub circle_text : List ℕ → Place → List ℕ
 circle_text class at =
-    codes "<circle class='halo' r='6'" ++ centred at ++ codes "<circle class='dot " ++ class ++ codes "' r='4'" ++ centred at
+    codes "<circle class='halo' r='6'" ++ centred at
+    ++ codes "<circle class='dot " ++ class ++ codes "' r='4'" ++ centred at
 
--- `number actor kind command @stamp bballot`
 abbrev pub label_text : ActorName → Option Sign → Place → List ℕ
-label_text actor sign at =
-    slanted (codes "<text") (x at.column + 4) 220 ++ decimal at.entry ++ codes " " ++ actor_word actor ++ sign_words sign ++ codes "</text>"
+label_text actor sign at = slanted (codes "<text") (x at.column + 4) 44 ++ label actor sign at.entry ++ codes "</text>"
 
 abbrev pub dot_text : ActorName → Option Sign → Place → List ℕ
 dot_text actor sign at = guide_text at ++ circle_text (dot_class sign) at ++ label_text actor sign at
@@ -174,18 +190,29 @@ style =
     ++ codes " orient='auto' markerUnits='userSpaceOnUse'><path d='M0 0L9 4L0 8z'"
     ++ codes " style='fill:#222;stroke:none'/></marker></defs><rect width='100%' height='100%' style='fill:#fff'/>"
 
--- the start, with the drawing's size: it is as wide as the legend at least
-abbrev pub size_text : ℕ → ℕ → List ℕ
-size_text columns rows =
-    codes "<svg xmlns='http://www.w3.org/2000/svg'" ++ quoted (codes " width='") (x (cond (nat_lt columns 23) 23 columns) + 150)
-    ++ quoted (codes " height='") (y rows + 170) ++ codes ">"
+-- the room above all that labels of so many characters need, at the slant
+abbrev pub head : ℕ → ℕ
+head reach = 6 * reach
+
+-- the last label has room behind the columns, and the legend has its own
+abbrev pub width : ℕ → ℕ → ℕ
+width columns reach = max 950 (x columns + 66 + 4 * reach)
+
+abbrev pub size_text : ℕ → ℕ → ℕ → List ℕ
+size_text columns rows reach =
+    codes "<svg xmlns='http://www.w3.org/2000/svg'" ++ quoted (codes " width='") (width columns reach)
+    ++ quoted (codes " height='") (y rows + 222 + head reach) ++ codes ">"
+
+-- all that follows stands below the labels' room
+abbrev pub below_text : ℕ → List ℕ
+below_text reach = codes "<g transform='translate(" ++ point 0 (head reach) ++ codes ")'>"
 
 -- the name of the row below all
 abbrev pub line_name : ℕ → List ℕ
 line_name rows = quoted (codes "<text class='name' x='68' y='") (y rows + 34) ++ codes ">line</text>"
 
-abbrev pub frame_text : ℕ → ℕ → List ℕ
-frame_text columns rows = size_text columns rows ++ style ++ line_name rows
+abbrev pub frame_text : ℕ → ℕ → ℕ → List ℕ
+frame_text columns rows reach = size_text columns rows reach ++ style ++ below_text reach ++ line_name rows
 
 -- what each class means
 unfoldable pub class_legend : List ℕ
@@ -197,8 +224,11 @@ class_legend =
     ++ codes "<path class='arrow commit' d='M150 0h40'/><text x='200' y='4'>commit</text>"
     ++ codes "<path class='arrow promises' d='M150 18h40'/><text x='200' y='22'>promises</text>"
     ++ codes "<path class='arrow execution' d='M150 36h40'/><text x='200' y='40'>execution</text>"
+    ++ codes "<g class='dot'><circle r='4' cx='40'/><circle r='4' cx='40' cy='18'/><circle r='4' cx='40' cy='36'/>"
+    ++ codes "<circle r='4' cx='40' cy='54'/><circle r='4' cx='190'/><circle r='4' cx='190' cy='18'/>"
+    ++ codes "<circle r='4' cx='190' cy='36'/></g>"
 
--- what each mark means, and the words of a label
+-- what each mark means
 unfoldable pub mark_legend : List ℕ
 mark_legend =
     codes "<path class='lost' d='M150 54h40'/><circle class='halo' r='6' cx='190' cy='54'/>"
@@ -207,13 +237,21 @@ mark_legend =
     ++ codes "<circle class='dot own' r='4' cx='320' cy='0'/><text x='336' y='4'>a step of its own</text>"
     ++ codes "<circle class='dot' r='4' cx='320' cy='18'/><text x='336' y='22'>a delivery</text>"
     ++ codes "<path class='end' d='M320 25v22'/><text x='336' y='40'>a crash</text>"
-    ++ codes "<text x='500' y='4'>7 p1.2 Kind 1.3 @4 b5</text>"
-    ++ codes "<text x='500' y='22'>entry 7, actor p1.2, command 1.3,</text>"
-    ++ codes "<text x='500' y='40'>timestamp 4, ballot 5</text>"
 
--- the legend, below so many rows
+-- the words of a label, the names of actors, and the row below all
+unfoldable pub word_legend : List ℕ
+word_legend =
+    codes "<text x='480' y='4'>7 p1.2 Kind 1.3 @4 b5: entry 7, of the actor p1.2,</text>"
+    ++ codes "<text x='480' y='22'>Kind about command 1.3, timestamp 4, ballot 5</text>"
+    ++ codes "<text x='480' y='40'>Promises @4: the timestamps up to 4 are promised</text>"
+    ++ codes "<text x='480' y='58'>s session, p process, e executor; 1.2 partition.rank</text>"
+    ++ codes "<text x='480' y='76'>line: each command where it is executed first</text>"
+
+-- the legend, below so many rows and the longest name of a command
 abbrev pub legend_text : ℕ → List ℕ
-legend_text rows = codes "<g transform='translate(" ++ point 90 (y rows + 80) ++ codes ")'>" ++ class_legend ++ mark_legend ++ codes "</g>"
+legend_text rows =
+    codes "<g transform='translate(" ++ point 90 (y rows + 130) ++ codes ")'>"
+    ++ class_legend ++ mark_legend ++ word_legend ++ codes "</g>"
 
 -- at a loss, and at a crash
 unfoldable pub cross_mark : Place → List ℕ
@@ -222,19 +260,20 @@ cross_mark at = mark (codes "cross") (codes "M-8 -8L8 8M-8 8L8 -8") at
 unfoldable pub end_mark : Place → List ℕ
 end_mark at = mark (codes "end") (codes "M0 -11V11") at
 
-abbrev pub shape_body : Shape → List ℕ
-shape_body (Frame columns rows) = frame_text columns rows
-shape_body (Legend rows) = legend_text rows
-shape_body (Row r actor end columns) = row_text r actor end columns
-shape_body (Arrow sign from to) = curve (codes "arrow " ++ class_word sign.kind) from to
-shape_body (Lost sign from to) = curve (codes "lost " ++ class_word sign.kind) from to
-shape_body (Dot actor sign at) = dot_text actor sign at
-shape_body (Cross at) = cross_mark at
-shape_body (End at) = end_mark at
-shape_body (First id at) = first_text id at
+-- in a drawing whose longest label has so many characters
+abbrev pub shape_body : ℕ → Shape → List ℕ
+shape_body reach (Frame columns rows) = frame_text columns rows reach
+shape_body reach (Legend rows) = legend_text rows
+shape_body reach (Row r actor end columns) = row_text r actor end columns
+shape_body reach (Arrow sign from to) = curve (codes "arrow " ++ class_word sign.kind) from to
+shape_body reach (Lost sign from to) = curve (codes "lost " ++ class_word sign.kind) from to
+shape_body reach (Dot actor sign at) = dot_text actor sign at
+shape_body reach (Cross at) = cross_mark at
+shape_body reach (End at) = end_mark at
+shape_body reach (First id at) = first_text id at
 
-abbrev pub shape_text : Shape → List ℕ
-shape_text shape = shape_body shape ++ 10 ∷ []
+abbrev pub shape_text : ℕ → Shape → List ℕ
+shape_text reach shape = shape_body reach shape ++ 10 ∷ []
 
 unfoldable pub svg_text : List Shape → List ℕ
-svg_text shapes = flat_map shape_text shapes ++ codes "</svg>" ++ 10 ∷ []
+svg_text shapes = flat_map (shape_text (longest shapes)) shapes ++ codes "</g></svg>" ++ 10 ∷ []

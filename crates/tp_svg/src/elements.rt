@@ -1,8 +1,9 @@
 ghost use Rattle.std.specs.Prelude.{◌≡◌, ◌++◌, OnOk};
 ghost use Rattle.tp_svg.specs.Svg.{bow, centred, circle_text, cross_mark, curve, dot_text, end_mark, first_text, guide_text, label_text, mark, name, row_line, row_text, slanted};
 
-use crate::numbers::{bend, put_number, put_point, put_quoted, x, y};
-use crate::words::{dot_class, put_actor, put_id, put_sign};
+use crate::label::put_label_words;
+use crate::numbers::{bend, put_point, put_quoted, x, y};
+use crate::words::{dot_class, put_actor, put_id};
 use tp_base::{ActorName, CommandId, NoMemory, Put};
 use tp_picture::{Place, Sign};
 
@@ -121,7 +122,7 @@ pub(crate) fn put_row(
 fn put_guide(out: &mut Put, at: Place) -> Result<(), NoMemory>
     ensures { OnOk result (out.new ≡ out.old ++ guide_text at) }
 {
-    out.bytes(b"<line class='guide' y1='224'")?;
+    out.bytes(b"<line class='guide' y1='48'")?;
     put_quoted(out, b" x1='", x(at.column))?;
     put_quoted(out, b" x2='", x(at.column))?;
     put_quoted(out, b" y2='", y(at.row))?;
@@ -155,11 +156,8 @@ fn put_circle(out: &mut Put, class: &[u8], at: Place) -> Result<(), NoMemory>
 fn put_label(out: &mut Put, actor: ActorName, sign: Option<Sign>, at: Place) -> Result<(), NoMemory>
     ensures { OnOk result (out.new ≡ out.old ++ label_text actor sign at) }
 {
-    put_slanted(out, b"<text", x(at.column) + 4, 220)?;
-    put_number(out, u128::from(at.entry))?;
-    out.bytes(b" ")?;
-    put_actor(out, actor)?;
-    put_sign(out, sign)?;
+    put_slanted(out, b"<text", x(at.column) + 4, 44)?;
+    put_label_words(out, actor, sign, at.entry)?;
     out.bytes(b"</text>")?;
     Ok(())
 }
@@ -175,7 +173,8 @@ pub(crate) fn put_dot(
 {
     put_guide(out, at)?;
     put_circle(out, dot_class(sign), at)?;
-    put_label(out, actor, sign, at)
+    put_label(out, actor, sign, at)?;
+    Ok(())
 }
 
 /// A command's first execution.

@@ -1,5 +1,5 @@
-ghost use Rattle.std.specs.Prelude.{◌≡◌, ◌++◌, cond, nat_lt, OnOk};
-ghost use Rattle.tp_svg.specs.Svg.{class_legend, frame_text, legend_text, line_name, mark_legend, size_text, style};
+ghost use Rattle.std.specs.Prelude.{◌≡◌, ◌++◌, OnOk};
+ghost use Rattle.tp_svg.specs.Svg.{below_text, class_legend, frame_text, head, legend_text, line_name, mark_legend, size_text, style, width, word_legend};
 
 use crate::numbers::{put_point, put_quoted, x, y};
 use tp_base::{NoMemory, Put};
@@ -47,10 +47,17 @@ fn put_class_legend(out: &mut Put) -> Result<(), NoMemory>
     )?;
     out.bytes(
         b"<path class='arrow execution' d='M150 36h40'/><text x='200' y='40'>execution</text>",
-    )
+    )?;
+    out.bytes(
+        b"<g class='dot'><circle r='4' cx='40'/><circle r='4' cx='40' cy='18'/><circle r='4' cx='40' cy='36'/>",
+    )?;
+    out.bytes(
+        b"<circle r='4' cx='40' cy='54'/><circle r='4' cx='190'/><circle r='4' cx='190' cy='18'/>",
+    )?;
+    out.bytes(b"<circle r='4' cx='190' cy='36'/></g>")
 }
 
-// What each mark means, and the words of a label.
+// What each mark means.
 #[tactic(auto, unfolding(crate::specs::Svg::mark_legend))]
 fn put_mark_legend(out: &mut Put) -> Result<(), NoMemory>
     ensures { OnOk result (out.new ≡ out.old ++ mark_legend) }
@@ -66,27 +73,54 @@ fn put_mark_legend(out: &mut Put) -> Result<(), NoMemory>
     out.bytes(
         b"<circle class='dot' r='4' cx='320' cy='18'/><text x='336' y='22'>a delivery</text>",
     )?;
-    out.bytes(b"<path class='end' d='M320 25v22'/><text x='336' y='40'>a crash</text>")?;
-    out.bytes(b"<text x='500' y='4'>7 p1.2 Kind 1.3 @4 b5</text>")?;
-    out.bytes(b"<text x='500' y='22'>entry 7, actor p1.2, command 1.3,</text>")?;
-    out.bytes(b"<text x='500' y='40'>timestamp 4, ballot 5</text>")
+    out.bytes(b"<path class='end' d='M320 25v22'/><text x='336' y='40'>a crash</text>")
 }
 
-// The columns that a picture has room for: those of the legend at least.
-fn widest(columns: usize) -> usize
-    ensures { result ≡ cond (nat_lt columns 23) 23 columns }
+// The words of a label, the names of actors, and the row below all.
+#[tactic(auto, unfolding(crate::specs::Svg::word_legend))]
+fn put_word_legend(out: &mut Put) -> Result<(), NoMemory>
+    ensures { OnOk result (out.new ≡ out.old ++ word_legend) }
 {
-    if columns < 23 { 23 } else { columns }
+    out.bytes(b"<text x='480' y='4'>7 p1.2 Kind 1.3 @4 b5: entry 7, of the actor p1.2,</text>")?;
+    out.bytes(b"<text x='480' y='22'>Kind about command 1.3, timestamp 4, ballot 5</text>")?;
+    out.bytes(b"<text x='480' y='40'>Promises @4: the timestamps up to 4 are promised</text>")?;
+    out.bytes(b"<text x='480' y='58'>s session, p process, e executor; 1.2 partition.rank</text>")?;
+    out.bytes(b"<text x='480' y='76'>line: each command where it is executed first</text>")?;
+    Ok(())
+}
+
+// The room above all that labels of so many characters need.
+fn head(reach: usize) -> u128
+    ensures { result ≡ head reach }
+{
+    6 * reach as u128
+}
+
+// How wide a picture is: the last label and the legend have room.
+fn width(columns: usize, reach: usize) -> u128
+    ensures { result ≡ width columns reach }
+{
+    (x(columns) + 66 + 4 * reach as u128).max(950)
 }
 
 // The start, with the size of a picture with so many columns and rows.
-fn put_size(out: &mut Put, columns: usize, rows: usize) -> Result<(), NoMemory>
-    ensures { OnOk result (out.new ≡ out.old ++ size_text columns rows) }
+fn put_size(out: &mut Put, columns: usize, rows: usize, reach: usize) -> Result<(), NoMemory>
+    ensures { OnOk result (out.new ≡ out.old ++ size_text columns rows reach) }
 {
     out.bytes(b"<svg xmlns='http://www.w3.org/2000/svg'")?;
-    put_quoted(out, b" width='", x(widest(columns)) + 150)?;
-    put_quoted(out, b" height='", y(rows) + 170)?;
+    put_quoted(out, b" width='", width(columns, reach))?;
+    put_quoted(out, b" height='", y(rows) + 222 + head(reach))?;
     out.bytes(b">")?;
+    Ok(())
+}
+
+// Moves all that follows below the labels' room.
+fn put_below(out: &mut Put, reach: usize) -> Result<(), NoMemory>
+    ensures { OnOk result (out.new ≡ out.old ++ below_text reach) }
+{
+    out.bytes(b"<g transform='translate(")?;
+    put_point(out, 0, head(reach))?;
+    out.bytes(b")'>")?;
     Ok(())
 }
 
@@ -100,24 +134,31 @@ fn put_line_name(out: &mut Put, rows: usize) -> Result<(), NoMemory>
 }
 
 /// The start of a picture: its size, its classes, and the name of the row below all.
-pub(crate) fn put_frame(out: &mut Put, columns: usize, rows: usize) -> Result<(), NoMemory>
-    ensures { OnOk result (out.new ≡ out.old ++ frame_text columns rows) }
+pub(crate) fn put_frame(
+    out: &mut Put,
+    columns: usize,
+    rows: usize,
+    reach: usize,
+) -> Result<(), NoMemory>
+    ensures { OnOk result (out.new ≡ out.old ++ frame_text columns rows reach) }
 {
-    put_size(out, columns, rows)?;
+    put_size(out, columns, rows, reach)?;
     put_style(out)?;
+    put_below(out, reach)?;
     put_line_name(out, rows)?;
     Ok(())
 }
 
-/// The legend, below so many rows.
+/// The legend, below so many rows and the longest name of a command.
 pub(crate) fn put_legend(out: &mut Put, rows: usize) -> Result<(), NoMemory>
     ensures { OnOk result (out.new ≡ out.old ++ legend_text rows) }
 {
     out.bytes(b"<g transform='translate(")?;
-    put_point(out, 90, y(rows) + 80)?;
+    put_point(out, 90, y(rows) + 130)?;
     out.bytes(b")'>")?;
     put_class_legend(out)?;
     put_mark_legend(out)?;
+    put_word_legend(out)?;
     out.bytes(b"</g>")?;
     Ok(())
 }

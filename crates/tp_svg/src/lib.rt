@@ -3,6 +3,7 @@
 
 mod elements;
 mod frame;
+mod label;
 mod numbers;
 mod svg;
 mod words;

@@ -16,7 +16,7 @@ pub(crate) fn x(column: usize) -> u128
 pub(crate) fn y(row: usize) -> u128
     ensures { result ≡ y row }
 {
-    206 + 34 * row as u128
+    30 + 34 * row as u128
 }
 
 /// What an arrow from one row to another bends to.
@@ -24,9 +24,9 @@ pub(crate) fn bend(from: usize, to: usize) -> u128
     ensures { result ≡ bend from to }
 {
     if from == to {
-        176 + 34 * from as u128
+        34 * from as u128
     } else {
-        206 + 17 * (from as u128 + to as u128)
+        30 + 17 * (from as u128 + to as u128)
     }
 }
 

@@ -7,7 +7,7 @@ pub returns : goal.returns
 returns c =
     put5 c.args.out.now
     c.bytes.new.self c.put_quoted.new.out c.put_quoted-2.new.out c.put_quoted-3.new.out c.bytes-2.new.self
-    (codes "<line class='guide' y1='224'")
+    (codes "<line class='guide' y1='48'")
     (quoted (codes " x1='") (x c.args.at.column))
     (quoted (codes " x2='") (x c.args.at.column))
     (quoted (codes " y2='") (y c.args.at.row))

@@ -4,4 +4,4 @@ use Rattle.tp_svg.specs.Svg.{shape_text}
 use Rattle.tp_svg.proofs.svg.put_shapes.Given as goal
 
 abbrev pub invariant-loop-shape : goal.invariant-loop-shape
-invariant-loop-shape l = l.out ≡ l.initial.out ++ flat_map shape_text (take l.shape-index l.shapes)
+invariant-loop-shape l = l.out ≡ l.initial.out ++ flat_map (shape_text l.fn.reach) (take l.shape-index l.shapes)
