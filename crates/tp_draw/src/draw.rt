@@ -30,7 +30,8 @@ pub fn tempo_draw<S: Source, K: Sink>(
 
     // The words are refused only where they choose no view, and then the input is as it was.
     ensures words { result.cause ≡ Some Cause.Words → view_of words.now ≡ None }
-    ensures unread { view_of words.now ≡ None → (S.left input.new ≡ S.left input.old) × (S.faults input.new ≡ S.faults input.old) }
+    ensures unread { view_of words.now ≡ None → (S.left input.new ≡ S.left input.old)
+        × (S.faults input.new ≡ S.faults input.old) }
 
     // No more is read than shows that the input is too long, and no fault past that is answered.
     ensures taken { TakesAtMost (INPUT_MOST + 1) (S.left input.old) (S.left input.new) }
@@ -38,15 +39,20 @@ pub fn tempo_draw<S: Source, K: Sink>(
 
     // There is no script where the words or the input are refused, or memory ran out. Else the input, read to its end, is
     // the text of the script and the journal, and the words choose a view.
-    ensures refused { IfSome result.cause (λ cause. result.script ≡ None → (cause ≡ Cause.Memory) ⊎ IsRefusal (view_of words.now) (S.left input.old) cause) }
-    ensures script { IfSome result.script (λ script. IfSome (S.left input.old) (λ text. IsTextOfBoth text script result.journal)) }
+    ensures refused { IfSome result.cause (λ cause. result.script ≡ None → (cause ≡ Cause.Memory)
+        ⊎ IsRefusal (view_of words.now) (S.left input.old) cause) }
+    ensures script { IfSome result.script
+        (λ script. IfSome (S.left input.old) (λ text. IsTextOfBoth text script result.journal)) }
     ensures ended { IfSome result.script (λ script. S.ended input.new × IsAtEnd (S.left input.new)) }
     ensures chosen { IfSome result.script (λ script. is_some (view_of words.now) ≡ true) }
     ensures answered { result.cause ≡ None → is_some result.script ≡ true }
 
     // With a script only writing or memory can fail. Else the whole picture is written, and in any case a front of it.
-    ensures written { IfSome result.script (λ script. IsDrawn (view_of words.now) script result.journal result.cause (K.written out.old) (K.written out.new) ⊎ (result.cause ≡ Some Cause.Write) ⊎ (result.cause ≡ Some Cause.Memory)) }
-    ensures front { IfSome result.script (λ script. IsBegun (view_of words.now) script result.journal (K.written out.old) (K.written out.new)) }
+    ensures written { IfSome result.script
+        (λ script. IsDrawn (view_of words.now) script result.journal result.cause (K.written out.old)
+        (K.written out.new) ⊎ (result.cause ≡ Some Cause.Write) ⊎ (result.cause ≡ Some Cause.Memory)) }
+    ensures front { IfSome result.script
+        (λ script. IsBegun (view_of words.now) script result.journal (K.written out.old) (K.written out.new)) }
     ensures unwritten { result.script ≡ None → Keeps (K.written out.old) (K.written out.new) }
     ensures unkept { result.script ≡ None → result.journal ≡ [] }
 
@@ -56,8 +62,11 @@ pub fn tempo_draw<S: Source, K: Sink>(
 
     // Where no count of faults rose, the answer is the one that is due, but for want of memory, and each text of a script
     // and a journal is drawn.
-    ensures exact { ¬ Rose (S.faults input.old) (S.faults input.new) → ¬ Rose (K.faults out.old) (K.faults out.new) → IsDue (view_of words.now) (S.left input.old) result.cause ⊎ (result.cause ≡ Some Cause.Memory) }
-    ensures complete { IsInputFor (view_of words.now) (S.left input.old) → ¬ Rose (S.faults input.old) (S.faults input.new) → ¬ Rose (K.faults out.old) (K.faults out.new) → (result.cause ≡ None) ⊎ (result.cause ≡ Some Cause.Memory) }
+    ensures exact { ¬ Rose (S.faults input.old) (S.faults input.new) → ¬ Rose (K.faults out.old) (K.faults out.new)
+        → IsDue (view_of words.now) (S.left input.old) result.cause ⊎ (result.cause ≡ Some Cause.Memory) }
+    ensures complete { IsInputFor (view_of words.now) (S.left input.old)
+        → ¬ Rose (S.faults input.old) (S.faults input.new) → ¬ Rose (K.faults out.old) (K.faults out.new)
+        → (result.cause ≡ None) ⊎ (result.cause ≡ Some Cause.Memory) }
 {
     let view = match view_of(alloc, words) {
         Ok(Some(view)) => view,
@@ -76,7 +85,8 @@ fn draw<K: Sink>(alloc: Global, view: &View, given: Given, out: &mut K) -> Finis
     ensures script { result.script ≡ Some given.script }
     ensures journal { result.journal ≡ given.journal }
     ensures status { IsStatusOf result.cause result.status }
-    ensures written { IsDrawn (Some view.now) given.script given.journal result.cause (K.written out.old) (K.written out.new) ⊎ (result.cause ≡ Some Cause.Write) ⊎ (result.cause ≡ Some Cause.Memory) }
+    ensures written { IsDrawn (Some view.now) given.script given.journal result.cause (K.written out.old)
+        (K.written out.new) ⊎ (result.cause ≡ Some Cause.Write) ⊎ (result.cause ≡ Some Cause.Memory) }
     ensures front { IsBegun (Some view.now) given.script given.journal (K.written out.old) (K.written out.new) }
     ensures fault { IsFaultOf Cause.Write (K.faults out.old) (K.faults out.new) result.cause }
 {

@@ -108,7 +108,8 @@ fn actors_in(alloc: Global, words: &[String]) -> Result<Option<Sequence<ActorNam
 
 // The word behind a name, if that is the first word, and the words behind both.
 fn valued<'a>(words: &'a [String], name: &str) -> (Option<&'a String>, &'a [String])
-    ensures value { MatchOption result.0 ((valued name.now (map string_bytes words.now)).0 ≡ None) (λ w. (valued name.now (map string_bytes words.now)).0 ≡ Some (string_bytes w.now)) }
+    ensures value { MatchOption result.0 ((valued name.now (map string_bytes words.now)).0 ≡ None)
+        (λ w. (valued name.now (map string_bytes words.now)).0 ≡ Some (string_bytes w.now)) }
     ensures rest { map string_bytes result.1.now ≡ (valued name.now (map string_bytes words.now)).1 }
 {
     match words {
