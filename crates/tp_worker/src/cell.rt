@@ -4,6 +4,7 @@ ghost use Rattle.tp_worker.specs.Cells.{GoesOn, HasAllFetched, IsCell, IsIdle, I
 ghost use Rattle.tp_worker.specs.declared.cell.CellState.TheVariants.{Live};
 
 use crate::acting::next;
+use crate::bells::Bells;
 use crate::post::Post;
 use crate::step::advance;
 use std::alloc::Global;
@@ -54,6 +55,7 @@ impl<A: Actor> Cell<A> {
             inbox,
             fetched: 0,
             made: 0,
+            letters: 0,
             alloc,
         };
         Cell {
@@ -110,8 +112,24 @@ impl<A: Actor> Cell<A> {
         }
     }
 
+    // Whether messages were entered for its actor that it has not fetched, as its bell tells.
+    pub(crate) fn has_mail(&self, bells: &Bells) -> bool {
+        bells.has_rung(self.actor.name(), self.post.letters)
+    }
+
+    // Sleeps until it has mail. False where no cell is awake any more.
+    pub(crate) fn sleep<R: Wait>(&self, rt: &R, bells: &Bells) -> bool {
+        bells.sleep(rt, self.actor.name(), self.post.letters)
+    }
+
     // Enters its actor's next step. False where there is none.
-    pub(crate) fn step<R: Wait, G: Gate>(&mut self, rt: &R, shared: &Shared, gate: &G) -> bool
+    pub(crate) fn step<R: Wait, G: Gate>(
+        &mut self,
+        rt: &R,
+        shared: &Shared,
+        bells: &Bells,
+        gate: &G,
+    ) -> bool
         requires table { self.old.desk.table ≡ shared.now }
         requires live { self.old.state ≡ Live }
         requires fetched { HasAllFetched self.old }
@@ -122,7 +140,15 @@ impl<A: Actor> Cell<A> {
         let Some(event) = next(&self.post, &self.actor) else {
             return false;
         };
-        self.state = advance(rt, shared, gate, &mut self.actor, &mut self.post, event);
+        self.state = advance(
+            rt,
+            shared,
+            bells,
+            gate,
+            &mut self.actor,
+            &mut self.post,
+            event,
+        );
         true
     }
 }

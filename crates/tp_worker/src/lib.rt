@@ -2,12 +2,14 @@
 #![tactic(auto)]
 
 mod acting;
+mod bells;
 mod cell;
 mod post;
 mod step;
 mod threads;
 mod working;
 
+pub use bells::Bells;
 pub use cell::{Cell, CellState};
 pub use threads::rounds;
 pub use working::work;

@@ -6,6 +6,7 @@ ghost use Rattle.tp_shared.specs.Histories.{MayFollow};
 ghost use Rattle.tp_shared.specs.Known.{entry_of, name_of};
 ghost use Rattle.tp_worker.specs.Posts.{HasEntered, HasSeen, HasWorked, IsPost, IsRefused};
 
+use crate::bells::Bells;
 use std::alloc::Global;
 use std::sync::Wait;
 use tp_base::NoMemory;
@@ -21,6 +22,8 @@ pub struct Post {
     pub fetched: u64,
     // The number of the actor's entries.
     pub made: u64,
+    // So many messages for the actor were fetched.
+    pub letters: u64,
     pub alloc: Global,
 }
 
@@ -45,6 +48,7 @@ impl Post {
         &mut self,
         rt: &R,
         shared: &Shared,
+        bells: &Bells,
         event: Event,
         outputs: Outputs,
     ) -> Result<u64, EnterFault>
@@ -66,6 +70,7 @@ impl Post {
     {
         self.desk.hold(rt, shared);
         self.desk.told();
+        ring_for(bells, &outputs);
         let entered = self.desk.enter(event, outputs);
         let parcels = self.desk.fetch(self.fetched);
         self.desk.release(shared);
@@ -94,8 +99,17 @@ impl Post {
         ensures all { OnOk result (self.new.fetched ≡ length self.new.desk.seen) }
     {
         prove!(parcels.len() < 1 << 63);
+        let letters = parcels.len() as u64;
         self.inbox.take(parcels)?;
+        self.letters = self.letters.wrapping_add(letters);
         self.fetched = self.desk.length();
         Ok(())
+    }
+}
+
+// Rings for each message, once for its addressee.
+fn ring_for(bells: &Bells, outputs: &Outputs) {
+    for message in outputs.as_slice() {
+        bells.ring(message.to);
     }
 }

@@ -5,6 +5,7 @@ ghost use Rattle.tp_worker.specs.Posts.{HasEntered, HasWorked, IsEndedBy, IsPost
 ghost use Rattle.tp_worker.specs.declared.cell.CellState.TheVariants.{Live};
 
 use crate::acting::act;
+use crate::bells::Bells;
 use crate::cell::CellState;
 use crate::post::Post;
 use std::sync::Wait;
@@ -17,6 +18,7 @@ use tp_shared::{EnterFault, Shared};
 pub fn advance<R: Wait, A: Actor, G: Gate>(
     rt: &R,
     shared: &Shared,
+    bells: &Bells,
     gate: &G,
     actor: &mut A,
     post: &mut Post,
@@ -39,7 +41,7 @@ pub fn advance<R: Wait, A: Actor, G: Gate>(
         return CellState::Spent;
     };
     gate.pass(actor.name(), post.made);
-    match post.offer(rt, shared, event, outputs) {
+    match post.offer(rt, shared, bells, event, outputs) {
         Ok(number) => after(event, number),
         Err(EnterFault::Crashed { entry }) => CellState::Crashed { entry },
         Err(EnterFault::NoMemory) => CellState::Spent,

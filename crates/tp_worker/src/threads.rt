@@ -3,6 +3,7 @@ ghost use Rattle.tp_base.specs.Lists.{Each};
 ghost use Rattle.tp_worker.specs.Cells.{AllDone, AllGoOn, GoesOn, IsDone, NoneSpent};
 ghost use Rattle.tp_worker.specs.declared.cell.CellState.TheVariants.{Live};
 
+use crate::bells::Bells;
 use crate::cell::{Cell, CellState};
 use crate::working::work;
 use std::sync::Wait;
@@ -24,8 +25,9 @@ pub fn rounds<R: Threads + Wait + Sync, A: Actor + Send, G: Gate + Sync>(
     ensures go_on { AllGoOn A.identity_of cells.old cells.new }
     ensures done { NoneSpent cells.new → AllDone cells.new }
 {
+    let bells = Bells::new();
     for _ in rt.forever() {
-        round(rt, cells, shared, gate);
+        round(rt, cells, shared, &bells, gate);
         if has_ended(cells) {
             return;
         }
@@ -38,6 +40,7 @@ fn round<R: Threads + Wait + Sync, A: Actor + Send, G: Gate + Sync>(
     rt: &R,
     cells: &mut [Cell<A>],
     shared: &Shared,
+    bells: &Bells,
     gate: &G,
 )
     requires table { Each (λ c. c.desk.table ≡ shared.now) cells.old }
@@ -57,7 +60,7 @@ fn round<R: Threads + Wait + Sync, A: Actor + Send, G: Gate + Sync>(
             ensures { GoesOn A.identity_of cell.entry.now cell.exit.now
                 × (cell.exit.now.state ≡ Live → IsDone cell.exit.now) }
         {
-            work(rt, cell, shared, gate);
+            work(rt, cell, shared, bells, gate);
         },
     );
 }
