@@ -88,8 +88,10 @@ impl Bits {
     // Turns a bit that was the other way, and counts it.
     fn turn(&mut self, place: usize, bit: bool)
         requires { place < length self.old.bits.items }
-        ensures counted { (bits : List Bool) → AreCounted bits self.old → slice_get bits place ≡ Some (not bit) → AreCounted (set bits place bit) self.new }
-        ensures ones { (bits : List Bool) → AreBits bits self.old → slice_get bits place ≡ Some (not bit) → self.new.ones ≡ ones (set bits place bit) }
+        ensures counted { (bits : List Bool) → AreCounted bits self.old → slice_get bits place ≡ Some (not bit)
+            → AreCounted (set bits place bit) self.new }
+        ensures ones { (bits : List Bool) → AreBits bits self.old → slice_get bits place ≡ Some (not bit)
+            → self.new.ones ≡ ones (set bits place bit) }
         ensures first { self.new.first ≡ self.old.first }
     {
         self.bits[place] = bit;
@@ -102,7 +104,8 @@ impl Bits {
 
     // The first set bit, after one was turned that was the other way before.
     fn first_turned(&self, place: usize, bit: bool) -> Option<usize>
-        ensures { (bits : List Bool) → AreCounted (set bits place bit) self.now → slice_get bits place ≡ Some (not bit) → self.now.first ≡ select bits 0 → result ≡ select (set bits place bit) 0 }
+        ensures { (bits : List Bool) → AreCounted (set bits place bit) self.now → slice_get bits place ≡ Some (not bit)
+            → self.now.first ≡ select bits 0 → result ≡ select (set bits place bit) 0 }
     {
         let Some(first) = self.first else {
             return Some(place);
@@ -118,7 +121,8 @@ impl Bits {
 
     // The first set bit, where none is set before a place.
     fn next(&self, place: usize) -> Option<usize>
-        ensures { (bits : List Bool) → AreCounted bits self.now → ones (take place bits) ≡ 0 → place < length bits → result ≡ select bits 0 }
+        ensures { (bits : List Bool) → AreCounted bits self.now → ones (take place bits) ≡ 0 → place < length bits
+            → result ≡ select bits 0 }
     {
         let block = place / BLOCK * BLOCK;
         let until = block.saturating_add(BLOCK).min(self.bits.len());
@@ -131,7 +135,8 @@ impl Bits {
     // The place of the set bit of a rank, where none is set before a group: its group is looked for, then its
     // row there, its block there, and the bit itself.
     fn search(&self, from: usize, rank: u64) -> Option<usize>
-        ensures { (bits : List Bool) → AreCounted bits self.now → ones (take (8192 * from) bits) ≡ 0 → result ≡ select bits rank }
+        ensures { (bits : List Bool) → AreCounted bits self.now → ones (take (8192 * from) bits) ≡ 0
+            → result ≡ select bits rank }
     {
         let group = find(&self.groups, from, rank)?;
         let first = group.block.saturating_mul(GROUP / ROW);

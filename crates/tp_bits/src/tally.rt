@@ -12,7 +12,9 @@ pub(crate) struct Spot {
 
 /// Counts one more bit at the end of a list of bits.
 pub(crate) fn count_new(counts: &mut Vec<u64>, block: usize, bit: bool) -> Result<(), NoMemory>
-    ensures { OnOk result ((width : ℕ) (bits : List Bool) → IsTally width bits counts.old.items → IsBlockOf width (length bits) block → length bits < 2 ^ 63 → IsTally width (bits ++ bit ∷ []) counts.new.items) }
+    ensures { OnOk result ((width : ℕ) (bits : List Bool) → IsTally width bits counts.old.items
+        → IsBlockOf width (length bits) block → length bits < 2 ^ 63
+        → IsTally width (bits ++ bit ∷ []) counts.new.items) }
 {
     if block < counts.len() {
         counts[block] = counts[block].saturating_add(u64::from(bit));
@@ -25,7 +27,9 @@ pub(crate) fn count_new(counts: &mut Vec<u64>, block: usize, bit: bool) -> Resul
 /// Counts a bit that is turned.
 pub(crate) fn count_turned(counts: &mut [u64], block: usize, bit: bool)
     ensures length { length counts.new ≡ length counts.old }
-    ensures tally { (width : ℕ) (bits : List Bool) (place : ℕ) → IsTally width bits counts.old → IsBlockOf width place block → slice_get bits place ≡ Some (not bit) → length bits < 2 ^ 63 → IsTally width (set bits place bit) counts.new }
+    ensures tally { (width : ℕ) (bits : List Bool) (place : ℕ) → IsTally width bits counts.old
+        → IsBlockOf width place block → slice_get bits place ≡ Some (not bit) → length bits < 2 ^ 63
+        → IsTally width (set bits place bit) counts.new }
 {
     if block < counts.len() {
         let count = counts[block].saturating_add(u64::from(bit));

@@ -72,7 +72,9 @@ impl Deliveries {
 
     /// Adds an output that was just sent.
     pub fn add(&mut self, slot: Slot, fate: Fate) -> Result<(), NoMemory>
-        ensures { OnOk result ((other : Slot) → left_in self.new other ≡ cond (same_slot slot other) (Some (first_left (fate_of fate))) (left_in self.old other)) }
+        ensures { OnOk result ((other : Slot)
+            → left_in self.new other
+            ≡ cond (same_slot slot other) (Some (first_left (fate_of fate))) (left_in self.old other)) }
     {
         self.left.insert(slot, Left::first(fate))?;
         Ok(())
@@ -80,7 +82,9 @@ impl Deliveries {
 
     /// Takes a delivery of an output, or its loss, where that is to come.
     pub fn take(&mut self, slot: Slot, loss: bool)
-        ensures { (other : Slot) → left_in self.new other ≡ cond (same_slot slot other) (option_map (taken loss) (left_in self.old other)) (left_in self.old other) }
+        ensures { (other : Slot)
+            → left_in self.new other
+            ≡ cond (same_slot slot other) (option_map (taken loss) (left_in self.old other)) (left_in self.old other) }
     {
         if let Some(left) = self.left.get_mut(&slot) {
             if left.is_of(loss) {

@@ -70,7 +70,8 @@ impl Fates {
 
     /// The fate of an output.
     fn of(&self, passage: Passage) -> Fate
-        ensures { (plan : List LineValue) → AreFates plan self.now → fate_of result ≡ fate_by plan passage.route.from passage.route.to passage.ordinal }
+        ensures { (plan : List LineValue) → AreFates plan self.now
+            → fate_of result ≡ fate_by plan passage.route.from passage.route.to passage.ordinal }
     {
         match self.named.get(&passage) {
             Some(fate) => *fate,

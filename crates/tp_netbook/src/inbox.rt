@@ -62,17 +62,26 @@ impl Inbox {
     /// What the actor does next: its plan line that is due, or else what becomes of its oldest message. It takes no
     /// memory.
     pub fn next(&self) -> Option<Event>
-        ensures next { (script : ScriptValue) (actor : ActorValue) (parcels : List ParcelValue) (own : List EntryValue) → IsInbox script actor parcels own self.now → result ≡ next_event script actor parcels own }
-        ensures follows { (script : ScriptValue) (journal : List EntryValue) (actor : ActorValue) → IsRun script journal → StandsIn script journal actor self.now → IfSome result (FollowsNext script (reverse journal) actor) }
-        ensures quiet { (script : ScriptValue) (journal : List EntryValue) (actor : ActorValue) → IsRun script journal → StandsIn script journal actor self.now → is_live (reverse journal) actor ≡ true → result ≡ None → HasNoneLeft script (reverse journal) actor }
+        ensures next { (script : ScriptValue) (actor : ActorValue) (parcels : List ParcelValue) (own : List EntryValue)
+            → IsInbox script actor parcels own self.now → result ≡ next_event script actor parcels own }
+        ensures follows { (script : ScriptValue) (journal : List EntryValue) (actor : ActorValue) → IsRun script journal
+            → StandsIn script journal actor self.now → IfSome result (FollowsNext script (reverse journal) actor) }
+        ensures quiet { (script : ScriptValue) (journal : List EntryValue) (actor : ActorValue) → IsRun script journal
+            → StandsIn script journal actor self.now → is_live (reverse journal) actor ≡ true → result ≡ None
+            → HasNoneLeft script (reverse journal) actor }
     {
         self.coming()
     }
 
     /// The oldest message that waits, where it has these numbers.
     pub fn message(&self, entry: u64, place: u64) -> Option<&Message>
-        ensures oldest { (script : ScriptValue) (actor : ActorValue) (parcels : List ParcelValue) (own : List EntryValue) → IsInbox script actor parcels own self.now → option_copied result ≡ message_for (waiting_among script own [] parcels) entry place }
-        ensures sent { (script : ScriptValue) (journal : List EntryValue) (actor : ActorValue) → IsRun script journal → StandsIn script journal actor self.now → next_event script actor (sent_to actor (reverse journal)) (entries_by actor (reverse journal)) ≡ Some (Deliver entry place) → option_copied result ≡ output_at (reverse journal) entry place }
+        ensures oldest { (script : ScriptValue) (actor : ActorValue) (parcels : List ParcelValue)
+            (own : List EntryValue) → IsInbox script actor parcels own self.now
+            → option_copied result ≡ message_for (waiting_among script own [] parcels) entry place }
+        ensures sent { (script : ScriptValue) (journal : List EntryValue) (actor : ActorValue) → IsRun script journal
+            → StandsIn script journal actor self.now
+            → next_event script actor (sent_to actor (reverse journal)) (entries_by actor (reverse journal))
+            ≡ Some (Deliver entry place) → option_copied result ≡ output_at (reverse journal) entry place }
     {
         self.oldest(entry, place)
     }

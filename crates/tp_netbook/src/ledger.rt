@@ -52,7 +52,8 @@ impl Ledger {
 
     /// Whether an actor lives: its site hasn't crashed.
     pub fn is_live(&self, actor: ActorName) -> bool
-        ensures { (script : ScriptValue) (journal : List EntryValue) → IsLedger script journal self.now → is_known script actor ≡ true → result ≡ is_live (reverse journal) actor }
+        ensures { (script : ScriptValue) (journal : List EntryValue) → IsLedger script journal self.now
+            → is_known script actor ≡ true → result ≡ is_live (reverse journal) actor }
     {
         self.is_alive(actor)
     }
@@ -60,14 +61,17 @@ impl Ledger {
     /// Whether an entry is as the plan has it: the line that is due or none, and a delivery or a loss
     /// that is left.
     pub fn follows_plan(&self, entry: &Entry) -> bool
-        ensures { (script : ScriptValue) (journal : List EntryValue) → IsLedger script journal self.now → is_known script entry.now.actor ≡ true → IsTrue result ↔ FollowsPlan script (reverse journal) entry.now }
+        ensures { (script : ScriptValue) (journal : List EntryValue) → IsLedger script journal self.now
+            → is_known script entry.now.actor ≡ true → IsTrue result ↔ FollowsPlan script (reverse journal) entry.now }
     {
         self.follows_line(entry.actor, entry.event) && self.follows_fate(entry.event)
     }
 
     /// Takes the next entry of the journal. After an error the ledger isn't used again.
     pub fn entered(&mut self, entry: &Entry) -> Result<(), NoMemory>
-        ensures { OnOk result ((script : ScriptValue) (journal : List EntryValue) → IsLedger script journal self.old → IsAccepted script → IsRun script (journal ++ entry.now ∷ []) → length journal + 1 < 2 ^ 64 → IsLedger script (journal ++ entry.now ∷ []) self.new) }
+        ensures { OnOk result ((script : ScriptValue) (journal : List EntryValue) → IsLedger script journal self.old
+            → IsAccepted script → IsRun script (journal ++ entry.now ∷ []) → length journal + 1 < 2 ^ 64
+            → IsLedger script (journal ++ entry.now ∷ []) self.new) }
     {
         self.take(entry.event);
         self.count(entry.actor, entry.event);
@@ -133,7 +137,8 @@ impl Ledger {
 
     /// Takes an event from what is left.
     fn take(&mut self, event: Event)
-        ensures left { (slot : SlotValue) → left_in self.new.deliveries slot ≡ left_after event slot (left_in self.old.deliveries slot) }
+        ensures left { (slot : SlotValue)
+            → left_in self.new.deliveries slot ≡ left_after event slot (left_in self.old.deliveries slot) }
         ensures rest { KeepsPlan self.old self.new }
         ensures routes { self.new.routes ≡ self.old.routes }
     {
@@ -175,7 +180,8 @@ impl Ledger {
 
     /// Counts an output, and adds what is left of it.
     fn send_one(&mut self, place: u64, message: &Message) -> Result<(), NoMemory>
-        ensures sends { OnOk result (Sends (record { entry = self.old.entries; place = place; message = message.now } ∷ []) self.old self.new) }
+        ensures sends { OnOk result
+            (Sends (record { entry = self.old.entries; place = place; message = message.now } ∷ []) self.old self.new) }
         ensures rest { OnOk result (KeepsPlan self.old self.new) }
     {
         let (from, to) = (message.from, message.to);

@@ -71,7 +71,9 @@ impl Netbook {
 
     /// How many steps may come next.
     pub fn pending(&self, next: &OwnSteps) -> u64
-        ensures { (script : ScriptValue) (journal : List EntryValue) → IsNetbook script journal self.now → IsAccepted script → IsRun script journal → AreNext script journal next.now → result ≡ length (pending script (reverse journal)) }
+        ensures { (script : ScriptValue) (journal : List EntryValue) → IsNetbook script journal self.now
+            → IsAccepted script → IsRun script journal → AreNext script journal next.now
+            → result ≡ length (pending script (reverse journal)) }
     {
         let others = (self.due as u64).saturating_add(self.count_own(next));
         self.count_deliveries().saturating_add(others)
@@ -79,7 +81,9 @@ impl Netbook {
 
     /// One of the steps that may come next, counted from 0.
     pub fn item(&self, next: &OwnSteps, index: u64) -> Option<Item>
-        ensures { (script : ScriptValue) (journal : List EntryValue) → IsNetbook script journal self.now → IsAccepted script → IsRun script journal → AreNext script journal next.now → result ≡ slice_get (pending script (reverse journal)) index }
+        ensures { (script : ScriptValue) (journal : List EntryValue) → IsNetbook script journal self.now
+            → IsAccepted script → IsRun script journal → AreNext script journal next.now
+            → result ≡ slice_get (pending script (reverse journal)) index }
     {
         let index = index as usize;
         if let Some(line) = self.line(index) {
@@ -95,7 +99,9 @@ impl Netbook {
 
     /// Takes the next entry of the journal. After an error the netbook isn't used again.
     pub fn entered(&mut self, entry: &Entry) -> Result<(), NoMemory>
-        ensures { OnOk result ((script : ScriptValue) (journal : List EntryValue) → IsNetbook script journal self.old → IsAccepted script → IsRun script (journal ++ entry.now ∷ []) → length journal + 1 < 2 ^ 64 → IsNetbook script (journal ++ entry.now ∷ []) self.new) }
+        ensures { OnOk result ((script : ScriptValue) (journal : List EntryValue) → IsNetbook script journal self.old
+            → IsAccepted script → IsRun script (journal ++ entry.now ∷ []) → length journal + 1 < 2 ^ 64
+            → IsNetbook script (journal ++ entry.now ∷ []) self.new) }
     {
         self.settle(entry.event);
         let turned = self.count(entry.actor, entry.event);
@@ -188,7 +194,8 @@ impl Netbook {
     }
 
     fn count_own(&self, next: &OwnSteps) -> u64
-        ensures { IsFreeRight self.now → length next.now ≡ length self.now.roster.items → result ≡ length (own_items self.now next.now) }
+        ensures { IsFreeRight self.now → length next.now ≡ length self.now.roster.items
+            → result ≡ length (own_items self.now next.now) }
     {
         if self.all_free {
             next.count()
@@ -210,7 +217,8 @@ impl Netbook {
     }
 
     fn own(&self, next: &OwnSteps, index: usize) -> Option<Item>
-        ensures { IsFreeRight self.now → length next.now ≡ length self.now.roster.items → result ≡ slice_get (own_items self.now next.now) index }
+        ensures { IsFreeRight self.now → length next.now ≡ length self.now.roster.items
+            → result ≡ slice_get (own_items self.now next.now) index }
     {
         if self.all_free {
             self.own_at(next, index)
@@ -221,7 +229,8 @@ impl Netbook {
 
     /// An actor's own step, by how many are there before it.
     fn own_at(&self, next: &OwnSteps, index: usize) -> Option<Item>
-        ensures { AreAllFree self.now → length next.now ≡ length self.now.roster.items → result ≡ slice_get (own_items self.now next.now) index }
+        ensures { AreAllFree self.now → length next.now ≡ length self.now.roster.items
+            → result ≡ slice_get (own_items self.now next.now) index }
     {
         let place = next.select(index as u64)?;
         let actor = self.roster.get(place)?;
@@ -277,7 +286,8 @@ impl Netbook {
 
     /// Marks whether an output may be delivered or lost now.
     fn mark(&mut self, place: usize)
-        ensures ready { (bits : List Bool) → AreBits bits self.old.ready → AreBits (marked self.old place bits) self.new.ready }
+        ensures ready { (bits : List Bool) → AreBits bits self.old.ready
+            → AreBits (marked self.old place bits) self.new.ready }
         ensures rest { KeepsRest self.old self.new }
         ensures outputs { self.new.outputs ≡ self.old.outputs }
         ensures routes { self.new.routes ≡ self.old.routes }
@@ -316,7 +326,8 @@ impl Netbook {
         ensures turned { Turns result self.old self.new }
         ensures plan { TurnsByPlan actor event result self.old }
         ensures due { self.old.due ≡ length (lines self.old) → self.new.due ≡ length (lines self.new) }
-        ensures free { self.old.all_free ≡ are_free self.old.sites.items → self.new.all_free ≡ are_free self.new.sites.items }
+        ensures free { self.old.all_free ≡ are_free self.old.sites.items
+            → self.new.all_free ≡ are_free self.new.sites.items }
         ensures topology { self.new.topology ≡ self.old.topology }
         ensures outputs { self.new.outputs ≡ self.old.outputs }
         ensures starts { self.new.starts ≡ self.old.starts }
@@ -357,7 +368,8 @@ impl Netbook {
 
     /// Counts an output, and adds it with its fate.
     fn add_output(&mut self, place: u64, message: &Message) -> Result<(), NoMemory>
-        ensures adds { OnOk result (Adds (record { entry = self.old.entries; place = place; message = message.now } ∷ []) self.old self.new) }
+        ensures adds { OnOk result
+            (Adds (record { entry = self.old.entries; place = place; message = message.now } ∷ []) self.old self.new) }
         ensures marks { OnOk result (KeepsMarks self.old self.new) }
         ensures rest { OnOk result (KeepsRest self.old self.new) }
     {
@@ -369,7 +381,8 @@ impl Netbook {
 
     /// The place of an actor's site, where the plan has a line for that.
     fn listed_at(&self, actor: ActorName) -> Option<usize>
-        ensures { (home : ℕ) → home_of self.now.topology actor ≡ Some home → may_turn self.now home ≡ true → result ≡ Some home }
+        ensures { (home : ℕ) → home_of self.now.topology actor ≡ Some home → may_turn self.now home ≡ true
+            → result ≡ Some home }
     {
         let home = home_of(&self.topology, actor)?;
         let watch = self.sites.get(home)?;

@@ -58,7 +58,8 @@ impl Watch {
         ensures live { self.new.live ≡ (self.old.live && not (is_crash event)) }
         ensures made { self.old.made + 1 < 2 ^ 64 → self.new.made ≡ self.old.made + 1 }
         ensures lines { self.new.lines.items ≡ self.old.lines.items }
-        ensures came { self.old.came + 1 < 2 ^ 64 → self.new.came ≡ cond (is_planned event) (self.old.came + 1) self.old.came }
+        ensures came { self.old.came + 1 < 2 ^ 64
+            → self.new.came ≡ cond (is_planned event) (self.old.came + 1) self.old.came }
     {
         let (live, undue) = (self.live, self.due().is_none());
         self.made = self.made.saturating_add(1);
