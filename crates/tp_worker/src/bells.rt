@@ -21,10 +21,10 @@ struct Bell {
     door: Parker,
 }
 
-/// A bell for each actor, which rings once for each message that is entered for it, so that who waits for messages sleeps
-/// meanwhile and doesn't take the turn to see that there are none. Who sleeps is woken as well once nobody is awake. A
-/// ring that comes too early or too late costs time and nothing else, and other threads ring at any time, so contracts
-/// tell nothing of them.
+/// A bell for each actor, which is rung with the turn for each message that is entered for it. So who waits for messages
+/// sleeps meanwhile, and doesn't take the turn to see that there are none; and who has heard its bell and then takes the
+/// turn finds what it rang for. Who sleeps is woken as well once nobody is awake. A ring that fails to come costs time and
+/// nothing else, and other threads ring at any time, so contracts tell nothing of them.
 #[derive(Drop)]
 pub struct Bells {
     bells: [Bell; BELLS],
@@ -51,11 +51,11 @@ impl Bells {
         }
     }
 
-    /// Whether an actor's bell rang more or less often than so many times.
-    pub fn has_rung(&self, actor: ActorName, heard: u64) -> bool {
+    /// How often an actor's bell rang.
+    pub fn rings(&self, actor: ActorName) -> u64 {
         match self.bells.get(bell_of(actor)) {
-            Some(bell) => bell.rings.load(Ordering::SeqCst) != heard,
-            None => true,
+            Some(bell) => bell.rings.load(Ordering::SeqCst),
+            None => 0,
         }
     }
 
@@ -78,7 +78,7 @@ impl Bells {
     pub fn sleep<R: Wait>(&self, rt: &R, actor: ActorName, heard: u64) -> bool {
         self.rest();
         for _ in rt.forever() {
-            if self.has_rung(actor, heard) {
+            if self.rings(actor) != heard {
                 self.wake();
                 return true;
             }

@@ -30,6 +30,8 @@ pub struct Cell<A: Actor> {
     actor: A,
     post: Post,
     state: CellState,
+    // How often the actor's bell had rung when the journal was looked at last.
+    heard: u64,
 }
 
 impl<A: Actor> Model for Cell<A> {
@@ -55,13 +57,13 @@ impl<A: Actor> Cell<A> {
             inbox,
             fetched: 0,
             made: 0,
-            letters: 0,
             alloc,
         };
         Cell {
             actor,
             post,
             state: CellState::Live,
+            heard: 0,
         }
     }
 
@@ -81,6 +83,7 @@ impl<A: Actor> Cell<A> {
             actor,
             post,
             state: _,
+            heard: _,
         } = self;
         (actor, post.desk)
     }
@@ -100,26 +103,27 @@ impl<A: Actor> Cell<A> {
     }
 
     // Fetches what was sent to its actor since it fetched last.
-    pub(crate) fn listen<R: Wait>(&mut self, rt: &R, shared: &Shared)
+    pub(crate) fn listen<R: Wait>(&mut self, rt: &R, shared: &Shared, bells: &Bells)
         requires table { self.old.desk.table ≡ shared.now }
         requires live { self.old.state ≡ Live }
         ensures goes_on { GoesOn A.identity_of self.old self.new }
         ensures own { self.new.desk.own ≡ self.old.desk.own }
         ensures fetched { HasAllFetched self.new }
     {
+        self.heard = bells.rings(self.actor.name());
         if self.post.listen(rt, shared).is_err() {
             self.state = CellState::Spent;
         }
     }
 
-    // Whether messages were entered for its actor that it has not fetched, as its bell tells.
+    // Whether its actor's bell has rung since it looked at the journal last.
     pub(crate) fn has_mail(&self, bells: &Bells) -> bool {
-        bells.has_rung(self.actor.name(), self.post.letters)
+        bells.rings(self.actor.name()) != self.heard
     }
 
     // Sleeps until it has mail. False where no cell is awake any more.
     pub(crate) fn sleep<R: Wait>(&self, rt: &R, bells: &Bells) -> bool {
-        bells.sleep(rt, self.actor.name(), self.post.letters)
+        bells.sleep(rt, self.actor.name(), self.heard)
     }
 
     // Enters its actor's next step. False where there is none.
@@ -140,6 +144,7 @@ impl<A: Actor> Cell<A> {
         let Some(event) = next(&self.post, &self.actor) else {
             return false;
         };
+        self.heard = bells.rings(self.actor.name());
         self.state = advance(
             rt,
             shared,

@@ -22,8 +22,6 @@ pub struct Post {
     pub fetched: u64,
     // The number of the actor's entries.
     pub made: u64,
-    // So many messages for the actor were fetched.
-    pub letters: u64,
     pub alloc: Global,
 }
 
@@ -99,9 +97,7 @@ impl Post {
         ensures all { OnOk result (self.new.fetched ≡ length self.new.desk.seen) }
     {
         prove!(parcels.len() < 1 << 63);
-        let letters = parcels.len() as u64;
         self.inbox.take(parcels)?;
-        self.letters = self.letters.wrapping_add(letters);
         self.fetched = self.desk.length();
         Ok(())
     }

@@ -33,7 +33,7 @@ pub fn work<R: Wait, A: Actor, G: Gate>(
     }
     let before = cell.made();
     bells.wake();
-    cell.listen(rt, shared);
+    cell.listen(rt, shared, bells);
     take_steps(rt, cell, shared, bells, gate);
     cell.made() - before
 }
@@ -62,7 +62,7 @@ fn take_steps<R: Wait, A: Actor, G: Gate>(
         if !waits(rt, cell, bells) {
             return;
         }
-        cell.listen(rt, shared);
+        cell.listen(rt, shared, bells);
     }
     unreachable!()
 }

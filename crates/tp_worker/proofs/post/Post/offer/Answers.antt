@@ -14,7 +14,7 @@ returns-in_err-number-clause-worked g c =
 pub overflow_add-self : goal.overflow_add-self
 overflow_add-self g c =
     let fits =
-    made_fits c.args.self.now (record { desk = c.release.new.self; inbox = c.args.self.now.inbox; fetched = c.args.self.now.fetched; made = c.args.self.now.made; letters = c.args.self.now.letters; alloc = c.args.self.now.alloc })
+    made_fits c.args.self.now (record { desk = c.release.new.self; inbox = c.args.self.now.inbox; fetched = c.args.self.now.fetched; made = c.args.self.now.made; alloc = c.args.self.now.alloc })
     c.hold.new.self c.enter-entered.new.self (entry_of c.args.self.now.desk c.args.event c.args.outputs) c.requires.post c.hold.ensures.held c.hold.ensures.grows c.told.ensures
     (entered_as c.args.self.now.desk c.hold.new.self c.enter-entered.new.self c.args.event c.args.outputs c.hold.ensures.held c.in_ok-number.ensures.entered)
     refl c.release.ensures (omega (arith, c.length.ensures, c.length.type_inv)) in
