@@ -21,4 +21,4 @@ returns-in-Ok-offer-clause-keeps g c =
 pub returns-in-Ok-offer-clause-entered : goal.returns-in-Ok-offer-clause-entered
 returns-in-Ok-offer-clause-entered g c = λ live.
     subst (λ (outputs : List Message). HasEntered (entry_of c.args.post.now.desk c.args.event outputs) c.args.post.now c.offer.new.self)
-      c.in-Ok.ensures.outputs c.in-Ok-offer.ensures.entered
+    c.in-Ok.ensures.outputs c.in-Ok-offer.ensures.entered
