@@ -13,5 +13,10 @@ pub fn partition_of(key: &[u8], partitions: u8) -> PartitionId
     for byte in key {
         total += u128::from(*byte);
     }
-    PartitionId((total % u128::from(partitions)) as u8 + 1)
+    // A remainder of 64 bits is one instruction; a sum of 128 takes a key of more than 2^56 bytes.
+    let rest = match u64::try_from(total) {
+        Ok(total) => (total % u64::from(partitions)) as u8,
+        Err(_) => (total % u128::from(partitions)) as u8,
+    };
+    PartitionId(rest + 1)
 }
