@@ -2,11 +2,11 @@
 use Rattle.std.proofs.Common.{◌≡◌, ℕ, suc, min, ◌+◌, ◌<◌, ◌≤◌, ◌^◌, length, List, refl, [], ◌∷◌, ◌++◌, sym, ap, subst, ◌∙◌, append_assoc, arith}
 use Rattle.std.proofs.lemmas.List.{append-nil, length-append}
 use Rattle.tp_base.proofs.Each.{each_left, each_right}
-use Rattle.tp_netbook.specs.Fates.{AreCountsFor, AreFates, TellsNext, fate_of}
-use Rattle.tp_netbook.specs.declared.fate.Fate.{Fate as FateValue}
+use Rattle.tp_fates.specs.Fates.{AreCountsFor, AreFates, TellsNext, fate_of}
+use Rattle.tp_fates.specs.declared.fate.Fate.{Fate as FateValue}
 use Rattle.tp_netbook.specs.Netbook.{Adds, HavePlaces, KeepsRest, added, new_outputs}
 use Rattle.tp_netbook.specs.Outputs.{new_output, packed}
-use Rattle.tp_netbook.specs.Routes.{route_of}
+use Rattle.tp_fates.specs.Routes.{route_of}
 use Rattle.tp_netbook.specs.declared.netbook.Netbook.{Netbook}
 use Rattle.tp_netbook.specs.declared.output.Output.{Output}
 use Rattle.tp_rules.specs.Journal.{numbered}

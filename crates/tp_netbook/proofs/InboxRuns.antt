@@ -17,8 +17,9 @@ use Rattle.tp_base.specs.declared.names.Site.{Site}
 use Rattle.tp_netbook.proofs.Outputs.{filter_like}
 use Rattle.tp_netbook.proofs.Parts.{and_true}
 use Rattle.tp_netbook.specs.Inbox.{FollowsNext, HasNoneLeft, entries_by, fate_after, line_or_first, lives_yet, message_for, next_event, output_with, sent_to, waiting_among, waits}
-use Rattle.tp_netbook.specs.Outputs.{event_of, loses, output_of}
-use Rattle.tp_netbook.specs.Routes.{next_number, route_of, same_route}
+use Rattle.tp_fates.specs.Deliveries.{loses}
+use Rattle.tp_netbook.specs.Outputs.{event_of, output_of}
+use Rattle.tp_fates.specs.Routes.{next_number, route_of, same_route}
 use Rattle.tp_netbook.specs.declared.inbox.Waiting.{Waiting}
 use Rattle.tp_netbook.specs.declared.output.Output.{Output}
 use Rattle.tp_rules.proofs.sent.Parcels.{numbered_parts, output_sent, parcel, sent_output, sent_within}

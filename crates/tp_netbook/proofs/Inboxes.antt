@@ -15,12 +15,13 @@ use Rattle.tp_base.specs.declared.names.ActorName.TheVariants.{Process, Executor
 use Rattle.tp_netbook.proofs.Outputs.{delivered_more, one_more}
 use Rattle.tp_netbook.proofs.Rosters.{take_next}
 use Rattle.tp_netbook.proofs.Watches.{due_is, watch_more}
-use Rattle.tp_netbook.specs.Fates.{AreCountsFor, AreFates, TellsNext, fate_of as given_as}
-use Rattle.tp_netbook.specs.declared.fate.Fate.{Fate as FateValue}
+use Rattle.tp_fates.specs.Fates.{AreCountsFor, AreFates, TellsNext, fate_of as given_as}
+use Rattle.tp_fates.specs.declared.fate.Fate.{Fate as FateValue}
 use Rattle.tp_netbook.specs.Inbox.{AreCountedBy, HasDone, IsInbox, IsOfGiven, IsWatchOf, MayBeDone, Takes, coming, elsewhere, fate_after, line_or_first, lives_yet, next_event, output_with, settled, waiting_among, waits}
 use Rattle.tp_netbook.specs.Netbook.{line_due}
-use Rattle.tp_netbook.specs.Outputs.{event_of, is_named, loses, new_output, passed}
-use Rattle.tp_netbook.specs.Routes.{route_of}
+use Rattle.tp_fates.specs.Deliveries.{loses}
+use Rattle.tp_netbook.specs.Outputs.{event_of, is_named, new_output, passed}
+use Rattle.tp_fates.specs.Routes.{route_of}
 use Rattle.tp_netbook.specs.declared.inbox.Inbox.{Inbox}
 use Rattle.tp_netbook.specs.declared.inbox.Waiting.{Waiting}
 use Rattle.tp_netbook.specs.declared.output.Output.{Output}

@@ -17,15 +17,17 @@ use Rattle.tp_netbook.proofs.NewOutputs.{IsEarlier, fate_is}
 use Rattle.tp_netbook.proofs.Outputs.{left_at_first, passed_is, sent_few}
 use Rattle.tp_netbook.proofs.Places.{get_sites, sites_get}
 use Rattle.tp_netbook.proofs.Watches.{due_is, watch_more, watch_same}
-use Rattle.tp_netbook.specs.Fates.{AreCountsFor, AreFates, TellsNext, fate_of as given_as}
-use Rattle.tp_netbook.specs.declared.fate.Fate.{Fate as FateValue}
-use Rattle.tp_netbook.specs.Ledger.{AreSeen, AreSeenAt, IsLedger, KeepsPlan, Sends, due_line, first_left, is_alive, is_left, left_after, left_in, left_of, left_with, line_of, may_come, parcel_at, same_slot, taken, watch_of}
+use Rattle.tp_fates.specs.Fates.{AreCountsFor, AreFates, TellsNext, fate_of as given_as}
+use Rattle.tp_fates.specs.declared.fate.Fate.{Fate as FateValue}
+use Rattle.tp_fates.specs.Deliveries.{first_left, left_in, same_slot, taken}
+use Rattle.tp_netbook.specs.Ledger.{AreSeen, AreSeenAt, IsLedger, KeepsPlan, Sends, due_line, is_alive, is_left, left_after, left_of, left_with, line_of, may_come, parcel_at, watch_of}
 use Rattle.tp_netbook.specs.Netbook.{AreWatches, IsCounted, IsWatch, lives}
-use Rattle.tp_netbook.specs.Outputs.{loses, output_of, passed}
+use Rattle.tp_fates.specs.Deliveries.{loses}
+use Rattle.tp_netbook.specs.Outputs.{output_of, passed}
 use Rattle.tp_netbook.specs.Places.{place_of_site}
-use Rattle.tp_netbook.specs.Routes.{next_number, route_of}
-use Rattle.tp_netbook.specs.declared.deliveries.Left.{Left}
-use Rattle.tp_netbook.specs.declared.deliveries.Slot.{Slot}
+use Rattle.tp_fates.specs.Routes.{next_number, route_of}
+use Rattle.tp_fates.specs.declared.deliveries.Left.{Left}
+use Rattle.tp_fates.specs.declared.deliveries.Slot.{Slot}
 use Rattle.tp_netbook.specs.declared.ledger.Ledger.{Ledger}
 use Rattle.tp_netbook.specs.declared.output.Output.{Output}
 use Rattle.tp_netbook.specs.declared.watch.Watch.{Watch}

@@ -1,10 +1,6 @@
 pub mod Places
 pub mod Parts
 pub mod Rosters
-pub mod SameRoutes
-pub mod FateTables
-pub mod RouteCounts
-pub mod NextFates
 pub mod Watches
 pub mod Outputs
 pub mod Starts

@@ -10,8 +10,9 @@ use Rattle.tp_base.specs.Lists.{IsIn}
 use Rattle.tp_netbook.proofs.Outputs.{filter_like, left_at_first}
 use Rattle.tp_netbook.proofs.Parts.{and_true}
 use Rattle.tp_netbook.specs.Netbook.{added, new_outputs}
-use Rattle.tp_netbook.specs.Outputs.{loses, output_of}
-use Rattle.tp_netbook.specs.Routes.{next_number, route_of, same_route}
+use Rattle.tp_fates.specs.Deliveries.{loses}
+use Rattle.tp_netbook.specs.Outputs.{output_of}
+use Rattle.tp_fates.specs.Routes.{next_number, route_of, same_route}
 use Rattle.tp_netbook.specs.declared.output.Output.{Output}
 use Rattle.tp_rules.proofs.sent.Parcels.{numbered_parts, parcel}
 use Rattle.tp_rules.proofs.lists.Tallies.{filter_none, filter_yes}

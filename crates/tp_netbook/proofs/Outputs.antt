@@ -4,7 +4,8 @@ use Rattle.std.specs.Prelude.{◌&&◌, ◌||◌, ◌==◌, filter}
 use Rattle.std.proofs.lemmas.Bool.{and_left, cases_Bool, cond-false, cond-true, ne_eqb}
 use Rattle.std.proofs.lemmas.List.{length-append}
 use Rattle.tp_base.specs.Lists.{IsIn}
-use Rattle.tp_netbook.specs.Outputs.{is_named, loses, output_of, passed}
+use Rattle.tp_fates.specs.Deliveries.{loses}
+use Rattle.tp_netbook.specs.Outputs.{is_named, output_of, passed}
 use Rattle.tp_netbook.specs.declared.output.Output.{Output}
 use Rattle.tp_rules.proofs.ends.HowMany.{outputs_few}
 use Rattle.tp_rules.proofs.sent.Parcels.{fate_stays, length-numbered, output_sent, parcel, sent_within}

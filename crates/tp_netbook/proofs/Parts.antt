@@ -3,6 +3,7 @@ use Rattle.std.proofs.Common.{◌≡◌, ℕ, zero, suc, ◌+◌, ◌-◌, ◌�
 use Rattle.std.proofs.lemmas.Bool.{cases_Bool, ltb-false}
 use Rattle.std.specs.List.{insert, position, position_or_len, zip}
 use Rattle.std.specs.Prelude.{◌&&◌, filter_map, nat_le, slice_get}
+use Rattle.tp_fates.proofs.FateTables.{drop_next}
 use Rattle.tp_netbook.specs.Netbook.{planned_of}
 use Rattle.tp_netbook.specs.declared.line.Line.{Line}
 use Rattle.tp_rules.specs.Plan.{Planned, asked_of, by_time, put_in}
@@ -111,11 +112,6 @@ put_last x ys n e at =
         one f rest = rw f (omega (arith, rest))
 
 -- the lines of a plan from its end on
-
-pub drop_next : (plan : List PlanLine) (i : ℕ) (line : PlanLine) → slice_get plan i ≡ Some line → drop i plan ≡ line ∷ drop (suc i) plan
-drop_next [] i line at = absurd cc
-drop_next (x ∷ xs) zero line at = let same : x ≡ line = cc in ap (λ (y : PlanLine). y ∷ xs) same
-drop_next (x ∷ xs) (suc i) line at = drop_next xs i line at
 
 abbrev pub lines_from : Site → List PlanLine → ℕ → List Planned
 lines_from s plan i = by_time (filter_map (asked_of s) (drop i plan))

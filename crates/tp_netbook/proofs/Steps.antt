@@ -19,9 +19,10 @@ use Rattle.tp_netbook.proofs.Starts.{placed}
 use Rattle.tp_netbook.proofs.Turned.{listed_settled, turned_marks}
 use Rattle.tp_netbook.proofs.Watches.{alive_is, free_site, lines_are, undue_is, watches_more}
 use Rattle.tp_netbook.specs.Netbook as book
-use Rattle.tp_netbook.specs.Fates.{AreCountsFor, AreFates}
+use Rattle.tp_fates.specs.Fates.{AreCountsFor, AreFates}
 use Rattle.tp_netbook.specs.Netbook.{Adds, AreCounted, AreListed, AreNext, ArePlaced, AreReady, AreReadyBut, AreWatches, IsFreeRight, IsNetbook, KeepsMarks, KeepsRest, Turns, TurnsByPlan, are_free, deliveries, delivery_item, due_items, has_lines, is_alive, is_free, is_undue, line_item, lines, may_turn, new_outputs, own_items}
-use Rattle.tp_netbook.specs.Outputs.{loses, output_of, passed, starts_of}
+use Rattle.tp_fates.specs.Deliveries.{loses}
+use Rattle.tp_netbook.specs.Outputs.{output_of, passed, starts_of}
 use Rattle.tp_netbook.specs.declared.netbook.Netbook.{Netbook}
 use Rattle.tp_netbook.specs.declared.output.Output.{Output}
 use Rattle.tp_rules.proofs.Histories.{free_history}

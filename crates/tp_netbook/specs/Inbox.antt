@@ -4,10 +4,11 @@ use Rattle.tp_base.specs.Lists.{Ascends, Each, IsIn}
 use Rattle.tp_base.specs.Names.{same_name}
 use Rattle.tp_base.specs.declared.names.ActorName.{ActorName}
 use Rattle.tp_base.specs.declared.names.ActorName.TheVariants.{Process, Executor, Session}
-use Rattle.tp_netbook.specs.Fates.{AreCountsFor, AreFates}
+use Rattle.tp_fates.specs.Fates.{AreCountsFor, AreFates}
 use Rattle.tp_netbook.specs.Netbook.{IsCounted, IsWatch, line_due}
-use Rattle.tp_netbook.specs.Outputs.{event_of, loses, passed}
-use Rattle.tp_netbook.specs.Routes.{next_number}
+use Rattle.tp_fates.specs.Deliveries.{loses}
+use Rattle.tp_netbook.specs.Outputs.{event_of, passed}
+use Rattle.tp_fates.specs.Routes.{next_number}
 use Rattle.tp_netbook.specs.declared.inbox.Inbox.{Inbox}
 use Rattle.tp_netbook.specs.declared.inbox.Waiting.{Waiting}
 use Rattle.tp_netbook.specs.declared.output.Output.{Output}

@@ -1,21 +1,19 @@
 -- What a ledger keeps of a journal: who lives, which lines are due, and what is left of each output.
-use Rattle.std.specs.Prelude.{ℕ, ◌≡◌, ◌≢◌, ◌+◌, ◌-◌, ◌^◌, ◌<◌, ◌==◌, ◌&&◌, not, nat_lt, Bool, true, false, cond, List, [], ◌∷◌, ◌++◌, Option, Some, None, length, option_map, reverse, slice_get}
-use Rattle.indexmap.specs.IndexMap.{get}
+use Rattle.std.specs.Prelude.{ℕ, ◌≡◌, ◌≢◌, ◌+◌, ◌^◌, ◌<◌, ◌&&◌, nat_lt, Bool, true, false, cond, List, [], ◌∷◌, ◌++◌, Option, Some, None, length, option_map, reverse, slice_get}
 use Rattle.tp_base.specs.declared.names.ActorName.{ActorName}
 use Rattle.tp_base.specs.declared.names.ActorName.TheVariants.{Process, Executor, Session}
 use Rattle.tp_base.specs.declared.names.Site.{Site}
-use Rattle.tp_netbook.specs.Fates.{AreCountsFor, AreFates}
+use Rattle.tp_fates.specs.Fates.{AreCountsFor, AreFates}
 use Rattle.tp_netbook.specs.Netbook.{AreWatches, IsCounted, line_due, lives}
-use Rattle.tp_netbook.specs.Outputs.{loses}
+use Rattle.tp_fates.specs.Deliveries.{first_left, is_of, left_in, loses, same_slot, taken}
 use Rattle.tp_netbook.specs.Places.{place_of_site}
-use Rattle.tp_netbook.specs.Routes.{next_number}
-use Rattle.tp_netbook.specs.declared.deliveries.Deliveries.{Deliveries}
-use Rattle.tp_netbook.specs.declared.deliveries.Left.{Left}
-use Rattle.tp_netbook.specs.declared.deliveries.Slot.{Slot}
+use Rattle.tp_fates.specs.Routes.{next_number}
+use Rattle.tp_fates.specs.declared.deliveries.Left.{Left}
+use Rattle.tp_fates.specs.declared.deliveries.Slot.{Slot}
 use Rattle.tp_netbook.specs.declared.ledger.Ledger.{Ledger}
 use Rattle.tp_netbook.specs.declared.watch.Watch.{Watch}
 use Rattle.tp_rules.specs.Journal.{output_at, sent}
-use Rattle.tp_rules.specs.Plan.{Fate, deliveries_left, fate_by, fate_of, left_by}
+use Rattle.tp_rules.specs.Plan.{deliveries_left, fate_by, fate_of}
 use Rattle.tp_rules.specs.declared.event.Entry.{Entry}
 use Rattle.tp_rules.specs.declared.event.Event.{Event}
 use Rattle.tp_rules.specs.declared.event.Event.TheVariants.{Deliver, Dropped, Inner as OfItself}
@@ -25,30 +23,11 @@ use Rattle.tp_script.specs.declared.script.PlanLine.{PlanLine}
 use Rattle.tp_script.specs.declared.script.Script.{Script}
 use Rattle.tp_wire.specs.declared.message.Message.{Message}
 
-abbrev pub same_slot : Slot → Slot → Bool
-same_slot a b = (a.entry == b.entry) && (a.place == b.place)
-
--- what is kept of an output
-abbrev pub left_in : Deliveries → Slot → Option Left
-left_in kept slot = get same_slot kept.left slot
-
 abbrev pub left_of : Script → List Entry → Parcel → Left
 left_of script older p = record { lost = loses (fate_of script older p); times = deliveries_left script older p }
 
 abbrev pub parcel_at : Slot → Message → Parcel
 parcel_at slot m = record { entry = slot.entry; place = slot.place; message = m }
-
--- of an output that was just sent
-abbrev pub first_left : Fate → Left
-first_left fate = record { lost = loses fate; times = left_by fate 0 false }
-
--- whether the loss, or a delivery, is to come
-abbrev pub is_of : Bool → Left → Bool
-is_of loss left = cond loss left.lost (not left.lost)
-
--- after a loss or a delivery
-abbrev pub taken : Bool → Left → Left
-taken loss left = record { lost = left.lost; times = cond (is_of loss left) (left.times - 1) left.times }
 
 -- whether it may come now, where it is to come
 abbrev pub may_come : Bool → Option Left → Bool

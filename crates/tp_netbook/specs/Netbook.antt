@@ -6,10 +6,10 @@ use Rattle.tp_base.specs.declared.names.ActorName.TheVariants.{Process, Executor
 use Rattle.tp_base.specs.declared.names.Site.{Site}
 use Rattle.tp_base.specs.Lists.{Each, IsIn}
 use Rattle.tp_bits.specs.Bits.{AreBits}
-use Rattle.tp_netbook.specs.Fates.{AreCountsFor, AreFates}
+use Rattle.tp_fates.specs.Fates.{AreCountsFor, AreFates}
 use Rattle.tp_netbook.specs.Outputs.{StandsAfter, event_of, new_output, output_of, starts_of}
 use Rattle.tp_netbook.specs.Places.{place_of_site}
-use Rattle.tp_netbook.specs.Routes.{next_number}
+use Rattle.tp_fates.specs.Routes.{next_number}
 use Rattle.tp_netbook.specs.declared.line.Line.{Line}
 use Rattle.tp_netbook.specs.declared.netbook.Netbook.{Netbook}
 use Rattle.tp_netbook.specs.declared.output.Inbox.{Inbox}

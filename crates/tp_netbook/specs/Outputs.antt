@@ -1,18 +1,15 @@
 -- What a netbook keeps of an output, where it stands among all, and what an event does to it.
-use Rattle.std.specs.Prelude.{ℕ, ◌≡◌, ◌+◌, ◌-◌, ◌==◌, ◌&&◌, not, Bool, true, false, cond, min, List, [], ◌∷◌, ◌++◌, Some, length, slice_get}
+use Rattle.std.specs.Prelude.{ℕ, ◌≡◌, ◌+◌, ◌-◌, ◌==◌, ◌&&◌, not, Bool, false, cond, min, List, [], ◌∷◌, ◌++◌, Some, length, slice_get}
 use Rattle.tp_base.specs.declared.names.ActorName.{ActorName}
+use Rattle.tp_fates.specs.Deliveries.{loses}
 use Rattle.tp_netbook.specs.declared.output.Output.{Output}
 use Rattle.tp_rules.specs.Journal.{sent}
-use Rattle.tp_rules.specs.Plan.{Fate, Lost, Times, deliveries_left, fate_of, left_by}
+use Rattle.tp_rules.specs.Plan.{Fate, deliveries_left, fate_of, left_by}
 use Rattle.tp_rules.specs.declared.event.Entry.{Entry}
 use Rattle.tp_rules.specs.declared.event.Event.{Event}
 use Rattle.tp_rules.specs.declared.event.Event.TheVariants.{Deliver, Dropped, Inner as OfItself}
 use Rattle.tp_rules.specs.declared.event.Parcel.{Parcel}
 use Rattle.tp_script.specs.declared.script.Script.{Script}
-
-abbrev pub loses : Fate → Bool
-loses Lost = true
-loses (Times n) = false
 
 abbrev pub output_of : Script → List Entry → Parcel → Output
 output_of script older p = record {

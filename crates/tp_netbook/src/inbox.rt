@@ -9,14 +9,13 @@ ghost use Rattle.tp_rules.specs.declared.event.Event.TheVariants.{Deliver};
 ghost use Rattle.tp_rules.specs.declared.event.Parcel.{Parcel as ParcelValue};
 ghost use Rattle.tp_script.specs.declared.script.Script.{Script as ScriptValue};
 
-use crate::fate::Fates;
 use crate::line::lines_of;
 use crate::output::Output;
-use crate::route::{Route, Routes};
 use crate::watch::Watch;
 use std::alloc::Global;
 use std::collections::VecDeque;
 use tp_base::{ActorName, Duplicate, NoMemory};
+use tp_fates::{Fates, Route, Routes};
 use tp_rules::{Event, Parcel, Parcels};
 use tp_script::Script;
 use tp_wire::Message;

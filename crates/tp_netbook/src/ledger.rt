@@ -1,21 +1,20 @@
 ghost use Rattle.std.specs.Option.{option_copied};
 ghost use Rattle.std.specs.Prelude.{◌≡◌, ◌<◌, ◌+◌, ◌^◌, ◌++◌, ◌∷◌, ◌↔◌, [], true, List, length, reverse, IfOk, IsTrue, OnOk};
-ghost use Rattle.tp_netbook.specs.Ledger.{AreSeen, IsLedger, KeepsPlan, Sends, due_line, is_alive, is_left, left_after, left_in, may_come, watch_of};
-ghost use Rattle.tp_netbook.specs.declared.deliveries.Slot.{Slot as SlotValue};
+ghost use Rattle.tp_fates.specs.Deliveries.{left_in};
+ghost use Rattle.tp_netbook.specs.Ledger.{AreSeen, IsLedger, KeepsPlan, Sends, due_line, is_alive, is_left, left_after, may_come, watch_of};
+ghost use Rattle.tp_fates.specs.declared.deliveries.Slot.{Slot as SlotValue};
 ghost use Rattle.tp_rules.specs.Journal.{is_known, is_live, numbered};
 ghost use Rattle.tp_rules.specs.Runs.{FollowsLine, FollowsPlan, IsRun};
 ghost use Rattle.tp_rules.specs.declared.event.Entry.{Entry as EntryValue};
 ghost use Rattle.tp_script.specs.Accepted.{IsAccepted};
 ghost use Rattle.tp_script.specs.declared.script.Script.{Script as ScriptValue};
 
-use crate::deliveries::{Deliveries, Left, Slot};
-use crate::fate::Fates;
 use crate::netbook::watches;
 use crate::roster::{place_of_site, sites_of};
-use crate::route::{Route, Routes};
 use crate::watch::{Watch, is_planned};
 use std::alloc::Global;
 use tp_base::{ActorName, NoMemory, Site};
+use tp_fates::{Deliveries, Fates, Left, Route, Routes, Slot};
 use tp_rules::{Entry, Event, Inner, Outputs};
 use tp_script::Script;
 use tp_topology::Topology;

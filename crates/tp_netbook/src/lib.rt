@@ -2,8 +2,6 @@
 //! the actors' own steps.
 #![tactic(auto)]
 
-mod deliveries;
-mod fate;
 mod inbox;
 mod ledger;
 mod line;
@@ -12,7 +10,6 @@ mod output;
 mod own_steps;
 mod packed;
 mod roster;
-mod route;
 mod watch;
 
 pub use inbox::Inbox;

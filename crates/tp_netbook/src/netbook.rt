@@ -10,17 +10,16 @@ ghost use Rattle.tp_rules.specs.declared.event.Entry.{Entry as EntryValue};
 ghost use Rattle.tp_script.specs.Accepted.{IsAccepted};
 ghost use Rattle.tp_script.specs.declared.script.Script.{Script as ScriptValue};
 
-use crate::fate::Fates;
 use crate::line::lines_of;
 use crate::output::{Inbox, Output, place_in};
 use crate::own_steps::OwnSteps;
 use crate::packed::Packed;
 use crate::roster::{place_of_site, roster, sites_of};
-use crate::route::{Route, Routes};
 use crate::watch::Watch;
 use std::alloc::Global;
 use tp_base::{ActorName, NoMemory, Site};
 use tp_bits::Bits;
+use tp_fates::{Fates, Route, Routes};
 use tp_rules::{Entry, Event, Inner, Item, Outputs};
 use tp_script::Script;
 use tp_topology::Topology;

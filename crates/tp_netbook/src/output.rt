@@ -1,9 +1,9 @@
 ghost use Rattle.std.specs.Prelude.{◌≡◌, ◌<◌, ◌^◌, ℕ, Some};
-ghost use Rattle.tp_netbook.specs.Fates.{fate_of};
+ghost use Rattle.tp_fates.specs.Fates.{fate_of};
 ghost use Rattle.tp_netbook.specs.Outputs.{StandsAt, event_of, is_named, new_output, passed};
 
-use crate::fate::Fate;
 use tp_base::ActorName;
+use tp_fates::Fate;
 use tp_rules::Event;
 
 /// A message that was sent: its place among the outputs of an entry, both from 1, its addressee, whether

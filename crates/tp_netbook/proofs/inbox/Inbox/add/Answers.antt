@@ -1,9 +1,9 @@
 use Rattle.std.proofs.Common.{◌++◌, sym, ap, subst, ◌∙◌}
 use Rattle.tp_netbook.proofs.Inboxes.{takes_one}
 use Rattle.tp_netbook.proofs.inbox.Inbox.add.Goals as goal
-use Rattle.tp_netbook.specs.Fates.{TellsNext}
+use Rattle.tp_fates.specs.Fates.{TellsNext}
 use Rattle.tp_netbook.specs.Inbox.{waits}
-use Rattle.tp_netbook.specs.Routes.{route_of}
+use Rattle.tp_fates.specs.Routes.{route_of}
 
 pub returns : goal.returns
 returns c = takes_one c.args.parcel.now c.args.self.now c.push.new.self c.in_ok-fate.fate

@@ -1,8 +1,8 @@
 use Rattle.std.proofs.Common.{◌++◌, ◌∷◌, [], sym, ap, subst, ◌∙◌}
 use Rattle.tp_netbook.proofs.Adding.{adds_one}
-use Rattle.tp_netbook.specs.Fates.{TellsNext}
+use Rattle.tp_fates.specs.Fates.{TellsNext}
 use Rattle.tp_netbook.specs.Outputs.{packed}
-use Rattle.tp_netbook.specs.Routes.{route_of}
+use Rattle.tp_fates.specs.Routes.{route_of}
 use Rattle.tp_netbook.specs.declared.output.Output.{Output}
 use Rattle.tp_netbook.proofs.netbook.Netbook.add_output.Goals as goal
 use Rattle.tp_rules.specs.declared.event.Parcel.{Parcel}

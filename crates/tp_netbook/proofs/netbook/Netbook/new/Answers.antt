@@ -1,7 +1,7 @@
 use Rattle.std.proofs.Common.{inr, List, refl, subst, ap, ◌∙◌, length}
 use Rattle.tp_netbook.proofs.Marks.{none_ready}
 use Rattle.tp_netbook.proofs.Turned.{none_listed}
-use Rattle.tp_netbook.specs.Fates.{AreFates}
+use Rattle.tp_fates.specs.Fates.{AreFates}
 use Rattle.tp_netbook.specs.Netbook.{are_free, due_items}
 use Rattle.tp_netbook.specs.declared.watch.Watch.{Watch}
 use Rattle.tp_netbook.specs.declared.netbook.Netbook.{Netbook}

@@ -1,0 +1,4 @@
+pub mod SameRoutes
+pub mod FateTables
+pub mod RouteCounts
+pub mod NextFates
