@@ -11,6 +11,8 @@ mod numbers;
 #[cfg(test)]
 mod runs;
 #[cfg(test)]
+mod scarce;
+#[cfg(test)]
 mod steps;
 #[cfg(test)]
 mod texts;
