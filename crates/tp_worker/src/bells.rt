@@ -26,14 +26,14 @@ struct Bell {
 /// turn finds what it rang for. Who sleeps is woken as well once nobody is awake. A ring that fails to come costs time and
 /// nothing else, and other threads ring at any time, so contracts tell nothing of them.
 #[derive(Drop)]
-pub struct Bells {
+pub(crate) struct Bells {
     bells: [Bell; BELLS],
     awake: AtomicU64,
 }
 
 impl Bells {
     /// Bells that never rang. Nobody is awake.
-    pub fn new() -> Bells {
+    pub(crate) fn new() -> Bells {
         Bells {
             bells: array::from_fn(|_| Bell {
                 rings: AtomicU64::new(0),
@@ -44,7 +44,7 @@ impl Bells {
     }
 
     /// Rings an actor's bell.
-    pub fn ring(&self, actor: ActorName) {
+    pub(crate) fn ring(&self, actor: ActorName) {
         if let Some(bell) = self.bells.get(bell_of(actor)) {
             bell.rings.fetch_add(1, Ordering::SeqCst);
             bell.door.unpark();
@@ -52,7 +52,7 @@ impl Bells {
     }
 
     /// How often an actor's bell rang.
-    pub fn rings(&self, actor: ActorName) -> u64 {
+    pub(crate) fn rings(&self, actor: ActorName) -> u64 {
         match self.bells.get(bell_of(actor)) {
             Some(bell) => bell.rings.load(Ordering::SeqCst),
             None => 0,
@@ -60,12 +60,12 @@ impl Bells {
     }
 
     /// One more is awake.
-    pub fn wake(&self) {
+    pub(crate) fn wake(&self) {
         self.awake.fetch_add(1, Ordering::SeqCst);
     }
 
     /// One is awake no more.
-    pub fn rest(&self) {
+    pub(crate) fn rest(&self) {
         if self.awake.fetch_sub(1, Ordering::SeqCst) != 1 {
             return;
         }
@@ -75,7 +75,7 @@ impl Bells {
     }
 
     /// Sleeps until an actor's bell has rung, where it rang so often before. False where nobody is awake any more.
-    pub fn sleep<R: Wait>(&self, rt: &R, actor: ActorName, heard: u64) -> bool {
+    pub(crate) fn sleep<R: Wait>(&self, rt: &R, actor: ActorName, heard: u64) -> bool {
         self.rest();
         for _ in rt.forever() {
             if self.rings(actor) != heard {

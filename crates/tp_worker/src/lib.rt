@@ -9,7 +9,6 @@ mod step;
 mod threads;
 mod working;
 
-pub use bells::Bells;
 pub use cell::{Cell, CellState};
 pub use threads::rounds;
 pub use working::work;

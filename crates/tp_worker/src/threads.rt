@@ -5,7 +5,7 @@ ghost use Rattle.tp_worker.specs.declared.cell.CellState.TheVariants.{Live};
 
 use crate::bells::Bells;
 use crate::cell::{Cell, CellState};
-use crate::working::work;
+use crate::working::work_beside;
 use std::sync::Wait;
 use std::thread;
 use std::thread::Threads;
@@ -60,7 +60,7 @@ fn round<R: Threads + Wait + Sync, A: Actor + Send, G: Gate + Sync>(
             ensures { GoesOn A.identity_of cell.entry.now cell.exit.now
                 × (cell.exit.now.state ≡ Live → IsDone cell.exit.now) }
         {
-            work(rt, cell, shared, bells, gate);
+            work_beside(rt, cell, shared, bells, gate);
         },
     );
 }

@@ -20,6 +20,21 @@ pub fn work<R: Wait, A: Actor, G: Gate>(
     rt: &R,
     cell: &mut Cell<A>,
     shared: &Shared,
+    gate: &G,
+) -> u64
+    requires table { cell.old.desk.table ≡ shared.now }
+    ensures goes_on { GoesOn A.identity_of cell.old cell.new }
+    ensures made { length cell.new.desk.own ≡ length cell.old.desk.own + result }
+    ensures done { cell.new.state ≡ Live → IsDone cell.new }
+{
+    work_beside(rt, cell, shared, &Bells::new(), gate)
+}
+
+/// The same beside the other cells of a round, whose bells these are: it waits for their messages until all of them wait.
+pub(crate) fn work_beside<R: Wait, A: Actor, G: Gate>(
+    rt: &R,
+    cell: &mut Cell<A>,
+    shared: &Shared,
     bells: &Bells,
     gate: &G,
 ) -> u64
